@@ -1,0 +1,45 @@
+// What a rate takes of an amount, what it leaves, and which amount it leaves a given one of.
+ghost use mathlib.Core.Path.{_≡_};
+ghost use Prim.Native.Nat.{ℕ, _-_, _≤_, _<_};
+ghost use Rattle.std.specs.Results.{Cases};
+ghost use Rattle.amounts.specs.Rounding.{part, left, grossed};
+use crate::rate::Rate;
+
+// A rate is at most a thousand ten-thousandths.
+#[derive(Clone, Copy, PartialEq, Eq, Debug)]
+pub enum RateFault {
+    AboveThousand,
+}
+
+impl Rate {
+    pub fn new(parts: u32) -> Result<Rate, RateFault>
+        ensures { λ r. ⌜ Cases r (λ rate. (rate .parts ≡ parts) × (parts ≤ 1000)) (λ _. 1000 < parts) ⌝ }
+    {
+        if parts > 1000 {
+            return Err(RateFault::AboveThousand);
+        }
+        Ok(Rate { parts })
+    }
+
+    // The part that the rate takes, rounded down.
+    pub fn part_of(self, amount: u32) -> u32
+        ensures { λ r. ⌜ r ≡ part amount (self .parts) ⌝ }
+    {
+        (amount as u64 * self.parts as u64 / 10000) as u32
+    }
+
+    // What the rate leaves, rounded down.
+    pub fn left_of(self, amount: u32) -> u32
+        ensures { λ r. ⌜ r ≡ left amount (self .parts) ⌝ }
+    {
+        (amount as u64 * (10000 - self.parts) as u64 / 10000) as u32
+    }
+
+    // The amount of which the rate leaves `net`, rounded up.
+    pub fn gross_of(self, net: u32) -> u64
+        ensures { λ r. ⌜ r ≡ grossed net (self .parts) ⌝ }
+    {
+        let kept = (10000 - self.parts) as u64;
+        (net as u64 * 10000 + (kept - 1)) / kept
+    }
+}
