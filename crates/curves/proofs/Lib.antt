@@ -1,0 +1,5 @@
+pub mod Options
+pub mod Floors
+pub mod Singles
+pub mod Fees
+pub mod Pairs

@@ -1,0 +1,5 @@
+pub mod Meaning
+pub mod Answers
+pub mod Single
+pub mod Fee
+pub mod Beside
