@@ -1,2 +1,4 @@
+pub mod Checks
+pub mod Pair
 pub mod Rounding
 pub mod Shares

@@ -1,8 +1,12 @@
 // The numbers that every layer shares: the largest amount, rates, and what deposits and withdrawals come to.
+mod pair;
 mod rate;
 mod rates;
 mod shares;
 
+pub use pair::Place;
+pub use pair::pair_count;
+pub use pair::place_of;
 pub use rate::Rate;
 pub use rates::RateFault;
 pub use shares::deposit_cost;

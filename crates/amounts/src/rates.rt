@@ -23,7 +23,8 @@ impl Rate {
 
     // The part that the rate takes, rounded down.
     pub fn part_of(self, amount: u32) -> u32
-        ensures { λ r. ⌜ r ≡ part amount (self .parts) ⌝ }
+        ensures value { λ r. ⌜ r ≡ part amount (self .parts) ⌝ }
+        ensures bound { λ r. ⌜ r ≤ amount ⌝ }
     {
         (amount as u64 * self.parts as u64 / 10000) as u32
     }

@@ -5,21 +5,19 @@ use mathlib.Core.Logic.{_⊎_}
 use Prim.Native.Nat.{ℕ, _+_, _-_, _*_, _^_, _≤_, _<_}
 use native.Mathlib.Omega.{arith}
 use lib.Dec.{leb, ltb}
-use Rattle.std.proofs.shelf.Tests.{ltb-true, ltb-false, cond-both}
+use Rattle.std.proofs.shelf.Tests.{cond-both}
 use Rattle.std.proofs.shelf.Ways.{tells}
 use Rattle.std.specs.declared.option.Option.{Option}
 use Rattle.std.specs.declared.option.Option.the-variants.{Some, None}
 use Rattle.curves.specs.Meaning.{Curves, Fair, Lawful}
 use Rattle.curves.specs.Single.{unless}
-use Rattle.curves.specs.Beside.{both, split, beside}
+use Rattle.amounts.proofs.Pairs.{split-has}
+use Rattle.amounts.specs.Pair.{both, split}
+use Rattle.curves.specs.Beside.{beside}
 use Rattle.curves.proofs.Options.{passed, still-none}
 
--- what holds of the first bank at its numbers and of the second at the others holds of the pair
-split-has : {X : Type 0} (P : X → Type 0) (count : ℕ) (f g : ℕ → X) (c : ℕ) → (c < count → P (f c)) → (count ≤ c → P (g (c - count))) → P (split count f g c)
-split-has P count f g c here there = cond-both (ltb c count) (f c) (g (c - count)) P (λ e. here (ltb-true c count e)) (λ e. there (ltb-false c count e))
-
 -- a number that the pair lacks has no answer
-lacking : (m n c : ℕ) (f g : ℕ → Option ℕ) → both m n ≤ c → ((k : ℕ) → n ≤ k → g k ≡ None) → unless (leb 8 c) (split m f g c) ≡ None
+lacking : (m n c : ℕ) (f g : ℕ → Option ℕ) → both 8 m n ≤ c → ((k : ℕ) → n ≤ k → g k ≡ None) → unless (leb 8 c) (split m f g c) ≡ None
 lacking m n c f g h second =
     cond-both (leb 8 c) None (split m f g c) (λ r. r ≡ None) (λ e. refl)
     (λ e.

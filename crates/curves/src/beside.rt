@@ -3,6 +3,9 @@ ghost use mathlib.Core.Path.{_≡_};
 ghost use Rattle.curves.specs.Beside.{beside};
 use crate::bank::CurveBank;
 use crate::bank::CurveFault;
+use amounts::Place;
+use amounts::pair_count;
+use amounts::place_of;
 
 #[derive(Clone, Copy)]
 pub struct Beside<First, Second> {
@@ -22,30 +25,22 @@ pub impl<First: CurveBank, Second: CurveBank> CurveBank for Beside<First, Second
     ghost meaning = { λ s. beside (First·CurveBank .meaning (s .first)) (Second·CurveBank .meaning (s .second)) };
 
     fn count(&self) -> u32 {
-        (self.first.count() as u64 + self.second.count() as u64).min(8) as u32
+        pair_count(self.first.count(), self.second.count(), 8)
     }
 
     fn buy(&self, curve: u32, direction: u32, x: u32, y: u32, a: u32) -> Result<u32, CurveFault> {
-        let count = self.first.count();
-        if curve >= 8 {
-            return Err(CurveFault::NoAnswer);
-        }
-        if curve < count {
-            self.first.buy(curve, direction, x, y, a)
-        } else {
-            self.second.buy(curve - count, direction, x, y, a)
+        match place_of(curve, self.first.count(), 8) {
+            Place::First(c) => self.first.buy(c, direction, x, y, a),
+            Place::Second(c) => self.second.buy(c, direction, x, y, a),
+            Place::Nowhere => Err(CurveFault::NoAnswer),
         }
     }
 
     fn price(&self, curve: u32, direction: u32, x: u32, y: u32, b: u32) -> Result<u32, CurveFault> {
-        let count = self.first.count();
-        if curve >= 8 {
-            return Err(CurveFault::NoAnswer);
-        }
-        if curve < count {
-            self.first.price(curve, direction, x, y, b)
-        } else {
-            self.second.price(curve - count, direction, x, y, b)
+        match place_of(curve, self.first.count(), 8) {
+            Place::First(c) => self.first.price(c, direction, x, y, b),
+            Place::Second(c) => self.second.price(c, direction, x, y, b),
+            Place::Nowhere => Err(CurveFault::NoAnswer),
         }
     }
 }

@@ -1,0 +1,5 @@
+pub mod Sums
+pub mod Shifts
+pub mod Laws
+pub mod Writes
+pub mod Pairs

@@ -1,0 +1,5 @@
+pub mod Meaning
+pub mod Moves
+pub mod Ledgers
+pub mod Beside
+pub mod Opening

@@ -1,0 +1,25 @@
+-- From which opening balances a ledger is made, and what a new ledger means. Assumes nothing.
+use mathlib.Core.Bool.{Bool, true, _&&_}
+use mathlib.Core.List.{List}
+use Prim.Native.Nat.{ℕ, zero, suc}
+use lib.Dec.{leb}
+use Rattle.std.specs.declared.result.Result.{Result}
+use Rattle.std.specs.declared.result.Result.the-variants.{Ok}
+use Rattle.amounts.specs.Checks.{need}
+use Rattle.amounts.specs.Rounding.{most}
+use Rattle.tokens.specs.declared.opening.OpeningFault.{OpeningFault}
+use Rattle.tokens.specs.declared.opening.OpeningFault.the-variants.{Count, Rate, Sum}
+use Rattle.tokens.specs.Ledgers.{cell}
+use Rattle.tokens.specs.Meaning.{Tokens, sum-below}
+
+-- of none of the first n currencies is there more than M
+unfoldable pub all-fit : ℕ → List (List ℕ) → Bool
+all-fit zero rows = true
+all-fit (suc n) rows = all-fit n rows && leb (sum-below 16 (cell rows n)) most
+
+abbrev pub opened : ℕ → List (List ℕ) → ℕ → Result Unit OpeningFault
+opened count rows rate = need (leb count 8) Count (need (leb rate 1000) Rate (need (all-fit count rows) Sum (Ok tt)))
+
+-- the opening balances and empty pots
+abbrev pub fresh : ℕ → List (List ℕ) → (ℕ → ℕ → ℕ) → Tokens
+fresh count rows arrives = record { count = count; balance = cell rows; pot = λ _. 0; arrives = arrives }
