@@ -10,7 +10,7 @@ use Rattle.amounts.specs.Pair.{split}
 pub by-side : (P : Bool → Type 0) (count n : ℕ) → (n < count → P true) → (count ≤ n → P false) → P (ltb n count)
 by-side P count n first second =
     let tested : (t : Bool) → ltb n count ≡ t → P t =
-        λ t. elim t as (λ t. ltb n count ≡ t → P t) [ true ↦ λ e. first (ltb-true n count e) | false ↦ λ e. second (ltb-false n count e) ]
+    λ t. elim t as (λ t. ltb n count ≡ t → P t) [ true ↦ λ e. first (ltb-true n count e) | false ↦ λ e. second (ltb-false n count e) ]
     in
     tested (ltb n count) refl
 

@@ -16,7 +16,11 @@ pub fn pair_count(first: u32, second: u32, bound: u32) -> u32
     ensures { λ r. ⌜ r ≡ both bound first second ⌝ }
 {
     let sum = first as u64 + second as u64;
-    if sum <= bound as u64 { sum as u32 } else { bound }
+    if sum <= bound as u64 {
+        sum as u32
+    } else {
+        bound
+    }
 }
 
 // Numbers below the first count are the first bank's, and the others below the bound the second's, less that count.

@@ -37,27 +37,27 @@ lawful-from t few within bounded =
       within = within;
       bounded = bounded;
       move-keeps = λ c from to a d.
-        either-way (transfer-answer t c from to a) (moved t c from to a) t (λ u. total u d ≡ total t d)
-        (λ n e.
-        let p = numbers (t .count) c from to a (need (leb a (t .balance c from)) Short (Ok (t .arrives c a))) n e in
-        let holds : a ≤ t .balance c from = grind (arith, tells, p .1) in
-        shift-keeps t c from a to (t .arrives c a) _ (p .0 .apart) holds (p .0 .payer) (p .0 .payee) (omega (arith, within c a)) d)
-        refl;
+          either-way (transfer-answer t c from to a) (moved t c from to a) t (λ u. total u d ≡ total t d)
+          (λ n e.
+          let p = numbers (t .count) c from to a (need (leb a (t .balance c from)) Short (Ok (t .arrives c a))) n e in
+          let holds : a ≤ t .balance c from = grind (arith, tells, p .1) in
+          shift-keeps t c from a to (t .arrives c a) _ (p .0 .apart) holds (p .0 .payer) (p .0 .payee) (omega (arith, within c a)) d)
+          refl;
       unmove-keeps = λ c from to a d.
-        either-way (unmove-answer t c from to a) (unmoved t c from to a) t (λ u. total u d ≡ total t d)
-        (λ n e.
-        let p = numbers (t .count) c from to a (need (leb (t .arrives c a) (t .balance c to) && leb (a - t .arrives c a) (t .pot c)) Short (Ok tt)) n e in
-        let holds : t .arrives c a ≤ t .balance c to = grind (arith, tells, p .1) in
-        let rest : a - t .arrives c a ≤ t .pot c = grind (arith, tells, p .1) in
-        shift-keeps t c to (t .arrives c a) from a _ (λ same. p .0 .apart (sym same)) holds (p .0 .payee) (p .0 .payer) (omega (arith, within c a)) d)
-        refl;
+          either-way (unmove-answer t c from to a) (unmoved t c from to a) t (λ u. total u d ≡ total t d)
+          (λ n e.
+          let p = numbers (t .count) c from to a (need (leb (t .arrives c a) (t .balance c to) && leb (a - t .arrives c a) (t .pot c)) Short (Ok tt)) n e in
+          let holds : t .arrives c a ≤ t .balance c to = grind (arith, tells, p .1) in
+          let rest : a - t .arrives c a ≤ t .pot c = grind (arith, tells, p .1) in
+          shift-keeps t c to (t .arrives c a) from a _ (λ same. p .0 .apart (sym same)) holds (p .0 .payee) (p .0 .payer) (omega (arith, within c a)) d)
+          refl;
       accepted-back = λ c from to a n e.
-        let p = numbers (t .count) c from to a (need (leb a (t .balance c from)) Short (Ok (t .arrives c a))) n e in
-        let all = p .0 .all in
-        grind (arith, tells);
+          let p = numbers (t .count) c from to a (need (leb a (t .balance c from)) Short (Ok (t .arrives c a))) n e in
+          let all = p .0 .all in
+          grind (arith, tells);
       restored = λ c from to a n e.
-        let p = numbers (t .count) c from to a (need (leb a (t .balance c from)) Short (Ok (t .arrives c a))) n e in
-        let holds : a ≤ t .balance c from = grind (arith, tells, p .1) in
-        let pot : moved t c from to a .pot c - (a - t .arrives c a) ≡ t .pot c = grind (arith, tells) in
-        ap (λ n. shifted (moved t c from to a) c to (t .arrives c a) from a n) pot ∙ shift-back t c from a to (t .arrives c a) _ (p .0 .apart) holds;
+          let p = numbers (t .count) c from to a (need (leb a (t .balance c from)) Short (Ok (t .arrives c a))) n e in
+          let holds : a ≤ t .balance c from = grind (arith, tells, p .1) in
+          let pot : moved t c from to a .pot c - (a - t .arrives c a) ≡ t .pot c = grind (arith, tells) in
+          ap (λ n. shifted (moved t c from to a) c to (t .arrives c a) from a n) pot ∙ shift-back t c from a to (t .arrives c a) _ (p .0 .apart) holds;
     }

@@ -3,3 +3,4 @@ pub mod Shifts
 pub mod Laws
 pub mod Writes
 pub mod Pairs
+pub mod Openings

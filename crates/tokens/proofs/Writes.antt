@@ -26,13 +26,18 @@ put-cell rows c a v h k d b = grind (arith, tells, getD-set-same, getD-set-other
 
 put-shaped : (rows : List (List ℕ)) (c a v : ℕ) → c < 8 → Shaped rows → Shaped (put rows c a v)
 put-shaped rows c a v h s =
-    let wide : c < length rows = omega (arith, s .0) in
-    (length-set rows c _ ∙ s .0,
-    λ d low.
-    ⊎-elim
-    (λ (e : d ≡ c). ap (λ k. length (getD (put rows c a v) k [])) e ∙ ap length (getD-set-same rows c (set (getD rows c []) a v) [] wide) ∙ length-set (getD rows c []) a v ∙ s .1 c h)
-    (λ (ne : d ≡ c → ⊥). ap length (getD-set-other rows c d (set (getD rows c []) a v) [] ne) ∙ s .1 d low)
-    (cases-eq d c))
+    let wide : c < length rows = omega (arith, s .0) in (
+      length-set rows c _ ∙ s .0,
+      λ d low.
+          ⊎-elim
+          (λ (e : d ≡ c).
+          let row : length (getD (put rows c a v) d []) ≡ length (getD rows c []) = ap (λ k. length (getD (put rows c a v) k [])) e ∙ ap length (getD-set-same rows c (set (getD rows c []) a v) [] wide) ∙ length-set (getD rows c []) a v in
+          omega (arith, row, s .1 c h))
+          (λ (ne : d ≡ c → ⊥).
+          let row : length (getD (put rows c a v) d []) ≡ length (getD rows d []) = ap length (getD-set-other rows c d (set (getD rows c []) a v) [] ne) in
+          omega (arith, row, s .1 d low))
+          (cases-eq d c),
+    )
 
 -- both writes of a shift
 abbrev pub rewritten : List (List ℕ) → ℕ → ℕ → ℕ → ℕ → ℕ → List (List ℕ)

@@ -19,9 +19,9 @@ slot pots c = getD pots c 0
 abbrev pub ledger : ℕ → List (List ℕ) → List ℕ → ℕ → Tokens
 ledger count rows pots rate = record { count = count; balance = cell rows; pot = slot pots; arrives = λ _ a. a - part a rate }
 
--- eight rows of sixteen
+-- eight rows, each with the places of all sixteen accounts
 abbrev pub Shaped : List (List ℕ) → Type 0
-Shaped rows = (length rows ≡ 8) × ((c : ℕ) → c < 8 → length (getD rows c []) ≡ 16)
+Shaped rows = (length rows ≡ 8) × ((c : ℕ) → c < 8 → 15 < length (getD rows c []))
 
 -- of no known currency is there more than M
 abbrev pub Bounded : ℕ → List (List ℕ) → List ℕ → Type 0

@@ -25,9 +25,9 @@ shifted t c payer fall payee rise pot =
     record {
       count = t .count;
       balance = λ d b.
-        cond (eqb d c)
-        (cond (eqb b payee) (t .balance c payee + rise) (cond (eqb b payer) (t .balance c payer - fall) (t .balance d b)))
-        (t .balance d b);
+          cond (eqb d c)
+          (cond (eqb b payee) (t .balance c payee + rise) (cond (eqb b payer) (t .balance c payer - fall) (t .balance d b)))
+          (t .balance d b);
       pot = λ d. cond (eqb d c) pot (t .pot d);
       arrives = t .arrives;
     }

@@ -24,7 +24,13 @@ pub trait TokenBank {
         ensures { λ r. ⌜ r ≡ balance-answer (meaning (now (self .entry))) currency account ⌝ };
 
     // Moves an amount from one account to another, and answers what arrived.
-    fn transfer(&mut self, currency: u32, from: u32, to: u32, amount: u32) -> Result<u32, TokenFault>
+    fn transfer(
+        &mut self,
+        currency: u32,
+        from: u32,
+        to: u32,
+        amount: u32,
+    ) -> Result<u32, TokenFault>
         ensures answers { λ r. ⌜ r ≡ transfer-answer (meaning (now (self .entry))) currency from to amount ⌝ }
         ensures leaves { λ _. ⌜ meaning (now (self .exit)) ≡ after-transfer (meaning (now (self .entry))) currency from to amount ⌝ };
 

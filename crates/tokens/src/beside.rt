@@ -36,7 +36,13 @@ pub impl<First: TokenBank, Second: TokenBank> TokenBank for Beside<First, Second
         }
     }
 
-    fn transfer(&mut self, currency: u32, from: u32, to: u32, amount: u32) -> Result<u32, TokenFault> {
+    fn transfer(
+        &mut self,
+        currency: u32,
+        from: u32,
+        to: u32,
+        amount: u32,
+    ) -> Result<u32, TokenFault> {
         match place_of(currency, self.first.count(), 8) {
             Place::First(c) => self.first.transfer(c, from, to, amount),
             Place::Second(c) => self.second.transfer(c, from, to, amount),

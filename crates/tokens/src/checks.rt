@@ -6,7 +6,13 @@ ghost use Rattle.tokens.specs.Moves.{numbered};
 use crate::bank::TokenFault;
 
 // Known numbers, two accounts and an amount.
-pub fn check_numbers(count: u32, currency: u32, from: u32, to: u32, amount: u32) -> Result<(), TokenFault>
+pub fn check_numbers(
+    count: u32,
+    currency: u32,
+    from: u32,
+    to: u32,
+    amount: u32,
+) -> Result<(), TokenFault>
     ensures answers { λ r. ⌜ r ≡ numbered count currency from to amount ⌝ }
     ensures passed { λ r. ⌜ made r (λ _. (currency < count) × (from < 16) × (to < 16) × (from ≡ to → ⊥) × (0 < amount)) ⌝ }
 {

@@ -22,7 +22,7 @@ impl Ledger {
     fn shift(&mut self, c: usize, payer: usize, fall: u32, payee: usize, rise: u32, pot: u64)
         requires { ⌜ Shift (now self .count) (now self .rows) (now self .pots) c payer fall payee rise pot ⌝ }
         ensures { λ _. ⌜ ledger (now (self .exit) .count) (now (self .exit) .rows) (now (self .exit) .pots) (now (self .exit) .rate .parts)
-          ≡ shifted (ledger (now (self .entry) .count) (now (self .entry) .rows) (now (self .entry) .pots) (now (self .entry) .rate .parts)) c payer fall payee rise pot ⌝ }
+            ≡ shifted (ledger (now (self .entry) .count) (now (self .entry) .rows) (now (self .entry) .pots) (now (self .entry) .rate .parts)) c payer fall payee rise pot ⌝ }
     {
         let before = self.rows[c][payer];
         let there = self.rows[c][payee];
@@ -49,7 +49,13 @@ pub impl TokenBank for Ledger as LedgerTokens {
         Ok(self.rows[currency as usize][account as usize])
     }
 
-    fn transfer(&mut self, currency: u32, from: u32, to: u32, amount: u32) -> Result<u32, TokenFault> {
+    fn transfer(
+        &mut self,
+        currency: u32,
+        from: u32,
+        to: u32,
+        amount: u32,
+    ) -> Result<u32, TokenFault> {
         check_numbers(self.count, currency, from, to, amount)?;
         let c = currency as usize;
         if amount > self.rows[c][from as usize] {

@@ -47,8 +47,8 @@ impl Ledger {
     // A ledger in which all that is sent arrives.
     pub fn plain(count: u32, opening: [[u32; 16]; 8]) -> Result<Ledger, OpeningFault>
         ensures { λ r. ⌜ Cases r
-          (λ l. (opened count opening 0 ≡ Ok tt) × (ledger (l .count) (l .rows) (l .pots) (l .rate .parts) ≡ fresh count opening (λ _ a. a)))
-          (λ e. opened count opening 0 ≡ Err e) ⌝ }
+            (λ l. (opened count opening 0 ≡ Ok tt) × (ledger (l .count) (l .rows) (l .pots) (l .rate .parts) ≡ fresh count opening (λ _ a. a)))
+            (λ e. opened count opening 0 ≡ Err e) ⌝ }
     {
         Ledger::levy(count, opening, 0)
     }
@@ -56,8 +56,8 @@ impl Ledger {
     // A ledger whose pot gets so many ten-thousandths of what is sent, rounded down.
     pub fn levy(count: u32, opening: [[u32; 16]; 8], rate: u32) -> Result<Ledger, OpeningFault>
         ensures { λ r. ⌜ Cases r
-          (λ l. (opened count opening rate ≡ Ok tt) × (ledger (l .count) (l .rows) (l .pots) (l .rate .parts) ≡ fresh count opening (λ _ a. a - part a rate)))
-          (λ e. opened count opening rate ≡ Err e) ⌝ }
+            (λ l. (opened count opening rate ≡ Ok tt) × (ledger (l .count) (l .rows) (l .pots) (l .rate .parts) ≡ fresh count opening (λ _ a. a - part a rate)))
+            (λ e. opened count opening rate ≡ Err e) ⌝ }
     {
         if count > 8 {
             return Err(OpeningFault::Count);
@@ -68,6 +68,11 @@ impl Ledger {
         if !rows_fit(count, &opening) {
             return Err(OpeningFault::Sum);
         }
-        Ok(Ledger { count, rate, rows: opening, pots: [0; 8] })
+        Ok(Ledger {
+            count,
+            rate,
+            rows: opening,
+            pots: [0; 8],
+        })
     }
 }
