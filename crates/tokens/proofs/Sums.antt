@@ -9,6 +9,10 @@ use Rattle.std.proofs.shelf.Tests.{cases-eq, eq-eqb, ne-eqb}
 use Rattle.std.proofs.shelf.Ways.{tells}
 use Rattle.tokens.specs.Meaning.{sum-below}
 
+pub sum-none : (f : ℕ → ℕ) → sum-below 0 f ≡ 0
+unfolding sum-below
+sum-none f = refl
+
 pub sum-more : (n : ℕ) (f : ℕ → ℕ) → sum-below (n + 1) f ≡ sum-below n f + f n
 unfolding sum-below
 sum-more n f = rw native.Mathlib.Numerals.add-one

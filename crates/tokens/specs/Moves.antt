@@ -9,10 +9,14 @@ use Rattle.amounts.specs.Checks.{need, then}
 use Rattle.amounts.specs.Rounding.{most}
 use Rattle.tokens.specs.declared.bank.TokenFault.{TokenFault}
 use Rattle.tokens.specs.declared.bank.TokenFault.the-variants.{UnknownCurrency, UnknownAccount, SameAccount, NoAmount, Short}
-use Rattle.tokens.specs.Meaning.{Tokens, total, moved, unmoved}
+use Rattle.tokens.specs.Meaning.{Tokens, sum-below, total, moved, unmoved}
 
 abbrev pub balance-answer : Tokens → ℕ → ℕ → Result ℕ TokenFault
 balance-answer t c account = need (ltb c (t .count)) UnknownCurrency (need (ltb account 16) UnknownAccount (Ok (t .balance c account)))
+
+-- the sixteen balances together
+abbrev pub circulating-answer : Tokens → ℕ → Result ℕ TokenFault
+circulating-answer t c = need (ltb c (t .count)) UnknownCurrency (Ok (sum-below 16 (t .balance c)))
 
 -- known numbers, two accounts, and an amount
 abbrev pub numbered : ℕ → ℕ → ℕ → ℕ → ℕ → Result Unit TokenFault

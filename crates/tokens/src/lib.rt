@@ -5,6 +5,7 @@ mod checks;
 mod ledger;
 mod moves;
 mod opening;
+mod report;
 
 pub use bank::TokenBank;
 pub use bank::TokenFault;
@@ -13,3 +14,4 @@ pub use beside::BesideTokens;
 pub use ledger::Ledger;
 pub use moves::LedgerTokens;
 pub use opening::OpeningFault;
+pub use report::circulating;
