@@ -3,13 +3,10 @@ use Prim.Native.Nat.{ℕ, _+_, _-_, _*_, _/_, _≤_}
 use native.Mathlib.Nat.{div-le-of-le-mul}
 use native.Mathlib.Omega.{arith}
 use Rattle.std.proofs.shelf.Bits.{mul-le, le-div}
-use Rattle.amounts.specs.Rounding.{part, left, grossed}
+use Rattle.amounts.specs.Rounding.{left, grossed}
 
-scaled-le : (a r : ℕ) → r ≤ 10000 → a * r / 10000 ≤ a
+pub scaled-le : (a r : ℕ) → r ≤ 10000 → a * r / 10000 ≤ a
 scaled-le a r h = let a-le : a ≤ a = omega arith in div-le-of-le-mul 10000 (omega (arith, mul-le a r a 10000 a-le h))
-
-pub part-le : (a r : ℕ) → r ≤ 1000 → part a r ≤ a
-part-le a r h = scaled-le a r (omega arith)
 
 pub left-le : (a r : ℕ) → left a r ≤ a
 left-le a r = scaled-le a (10000 - r) (omega arith)

@@ -10,7 +10,6 @@ pub use pair::place_of;
 pub use rate::Rate;
 pub use rates::RateFault;
 pub use shares::deposit_cost;
-pub use shares::root;
 pub use shares::seeded;
 pub use shares::withdrawn;
 

@@ -1,12 +1,11 @@
 // Shares of a pool: what a first deposit makes, what a deposit costs, what a withdrawal pays.
 ghost use mathlib.Core.Path.{_≡_};
-ghost use Prim.Native.Nat.{ℕ, _*_, _-_, _≤_, _<_};
-ghost use Rattle.amounts.specs.Rounding.{up, down};
+ghost use Prim.Native.Nat.{_<_};
 ghost use Rattle.amounts.specs.Shares.{root as whole-root, seeded as seeded-shares, cost, paid};
 use crate::LOCKED_SHARES;
 
 // The whole part of the square root.
-pub fn root(n: u64) -> u32
+fn root(n: u64) -> u32
     ensures { λ r. ⌜ r ≡ whole-root n ⌝ }
 {
     n.isqrt() as u32

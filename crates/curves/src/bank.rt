@@ -4,7 +4,7 @@ ghost use Prim.Native.Nat.{ℕ};
 ghost use Rattle.curves.specs.Meaning.{Curves, Lawful};
 ghost use Rattle.curves.specs.Answers.{answered};
 
-#[derive(Clone, Copy, PartialEq, Eq, Debug)]
+#[derive(Clone, Copy)]
 pub enum CurveFault {
     NoAnswer,
 }

@@ -1,4 +1,7 @@
 // The constant product curve.
+ghost use mathlib.Core.Path.{_≡_};
+ghost use Prim.Native.Nat.{_+_, _*_, _<_};
+ghost use Rattle.amounts.specs.Rounding.{down};
 ghost use Rattle.curves.specs.Single.{product};
 use crate::bank::CurveBank;
 use crate::bank::CurveFault;
@@ -7,6 +10,14 @@ use crate::sides::with_room;
 
 #[derive(Clone, Copy)]
 pub struct Product;
+
+// What an input takes out, rounded down: the new product is no lower.
+fn output_for(held: u32, other: u32, input: u32) -> u32
+    requires { ⌜ 0 < held ⌝ }
+    ensures { λ r. ⌜ r ≡ down (other * input) (held + input) ⌝ }
+{
+    (other as u64 * input as u64 / (held as u64 + input as u64)) as u32
+}
 
 pub impl CurveBank for Product as ProductCurve {
     ghost meaning = { λ _. product };
@@ -21,8 +32,7 @@ pub impl CurveBank for Product as ProductCurve {
             return Err(CurveFault::NoAnswer);
         }
         let input = with_room(s.input, a as u64)?;
-        let whole = s.input as u64 + input as u64;
-        Ok((s.output as u64 * input as u64 / whole) as u32)
+        Ok(output_for(s.input, s.output, input))
     }
 
     fn price(&self, curve: u32, direction: u32, x: u32, y: u32, b: u32) -> Result<u32, CurveFault> {
@@ -30,9 +40,7 @@ pub impl CurveBank for Product as ProductCurve {
         if s.input == 0 || b >= s.output {
             return Err(CurveFault::NoAnswer);
         }
-        with_room(
-            s.input,
-            s.input as u64 * b as u64 / (s.output - b) as u64 + 1,
-        )
+        let input = s.input as u64 * b as u64 / (s.output - b) as u64 + 1;
+        with_room(s.input, input)
     }
 }

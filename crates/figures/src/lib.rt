@@ -6,6 +6,7 @@ mod table;
 pub use bank::ExampleCurves;
 pub use bank::example_curves;
 pub use question::Answer;
+pub use question::AnswerPartialEq;
 pub use question::Question;
 pub use table::Figure;
 pub use table::figures;

@@ -41,7 +41,7 @@ pub enum Question {
     },
 }
 
-#[derive(Clone, Copy, PartialEq, Eq, Debug)]
+#[derive(Clone, Copy, PartialEq)]
 pub enum Answer {
     Refused,
     One(u32),

@@ -128,9 +128,9 @@ pub fn figures() -> [Figure; 14]
         Figure {
             question: Question::Remove {
                 shares: 600,
-                x: 4100,
-                y: 8781,
-                total: 6000,
+                x: 4510,
+                y: 9660,
+                total: 6600,
             },
             answer: Answer::Two(410, 878),
         },

@@ -51,9 +51,5 @@ empty (suc n) (suc d) = empty n d
 pub no-pots : (d : ℕ) → slot (replicate 8 0) d ≡ 0
 no-pots d = empty 8 d
 
-pub opens-fresh : (count : ℕ) (rows : List (List ℕ)) (parts rate : ℕ) → parts ≡ rate → ledger count rows (replicate 8 0) parts ≡ fresh count rows (λ _ a. a - part a rate)
+pub opens-fresh : (count : ℕ) (rows : List (List ℕ)) (parts rate : ℕ) → parts ≡ rate → ledger count rows (replicate 8 0) parts ≡ fresh count rows rate
 opens-fresh count rows parts rate e = same-tokens _ _ refl (λ d b. refl) no-pots (λ d a. ap (λ r. a - part a r) e)
-
--- a levy of 0 leaves all
-pub opens-plain : (count : ℕ) (rows : List (List ℕ)) → fresh count rows (λ _ a. a - part a 0) ≡ fresh count rows (λ _ a. a)
-opens-plain count rows = same-tokens _ _ refl (λ d b. refl) (λ d. refl) (λ d a. omega arith)

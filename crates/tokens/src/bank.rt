@@ -3,7 +3,7 @@ ghost use mathlib.Core.Path.{_≡_};
 ghost use Rattle.tokens.specs.Meaning.{Tokens};
 ghost use Rattle.tokens.specs.Moves.{Lawful, balance-answer, transfer-answer, after-transfer, unmove-answer, after-unmove};
 
-#[derive(Clone, Copy, PartialEq, Eq, Debug)]
+#[derive(Clone, Copy)]
 pub enum TokenFault {
     UnknownCurrency,
     UnknownAccount,

@@ -1,18 +1,17 @@
 // Ledgers made from opening balances.
 ghost use mathlib.Core.Path.{_≡_};
-ghost use Prim.Native.Nat.{ℕ, _-_, _<_, _≤_};
+ghost use Prim.Native.Nat.{_<_, _≤_};
 ghost use Rattle.std.specs.Results.{Cases};
 ghost use Rattle.std.specs.declared.result.Result.the-variants.{Ok, Err};
-ghost use Rattle.amounts.specs.Rounding.{part};
 ghost use Rattle.tokens.specs.Ledgers.{cell, ledger};
 ghost use Rattle.tokens.specs.Meaning.{sum-below};
-ghost use Rattle.tokens.specs.Opening.{all-fit, opened, fresh};
+ghost use Rattle.tokens.specs.Opening.{all-fit, opened, fresh, Plain};
 use crate::ledger::Ledger;
 use amounts::MOST;
 use amounts::Rate;
 
 // Why a ledger is not made.
-#[derive(Clone, Copy, PartialEq, Eq, Debug)]
+#[derive(Clone, Copy)]
 pub enum OpeningFault {
     Count,
     Rate,
@@ -47,7 +46,7 @@ impl Ledger {
     // A ledger in which all that is sent arrives.
     pub fn plain(count: u32, opening: [[u32; 16]; 8]) -> Result<Ledger, OpeningFault>
         ensures { λ r. ⌜ Cases r
-            (λ l. (opened count opening 0 ≡ Ok tt) × (ledger (l .count) (l .rows) (l .pots) (l .rate .parts) ≡ fresh count opening (λ _ a. a)))
+            (λ l. (opened count opening 0 ≡ Ok tt) × (ledger (l .count) (l .rows) (l .pots) (l .rate .parts) ≡ fresh count opening 0) × Plain (fresh count opening 0))
             (λ e. opened count opening 0 ≡ Err e) ⌝ }
     {
         Ledger::levy(count, opening, 0)
@@ -56,7 +55,7 @@ impl Ledger {
     // A ledger whose pot gets so many ten-thousandths of what is sent, rounded down.
     pub fn levy(count: u32, opening: [[u32; 16]; 8], rate: u32) -> Result<Ledger, OpeningFault>
         ensures { λ r. ⌜ Cases r
-            (λ l. (opened count opening rate ≡ Ok tt) × (ledger (l .count) (l .rows) (l .pots) (l .rate .parts) ≡ fresh count opening (λ _ a. a - part a rate)))
+            (λ l. (opened count opening rate ≡ Ok tt) × (ledger (l .count) (l .rows) (l .pots) (l .rate .parts) ≡ fresh count opening rate))
             (λ e. opened count opening rate ≡ Err e) ⌝ }
     {
         if count > 8 {

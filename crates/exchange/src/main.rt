@@ -1,0 +1,13 @@
+// Quotes, pays and asks hooks on the ready-made banks, and tells in print what was asked and what came.
+mod figure_lines;
+mod payments;
+mod quotes;
+mod stop;
+
+use stop::Stop;
+
+fn main(rt: LibcRuntime) -> Result<(), Stop> {
+    figure_lines::show(&rt)?;
+    quotes::show(&rt)?;
+    payments::show(&rt)
+}
