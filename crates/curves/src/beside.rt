@@ -7,7 +7,7 @@ use amounts::Place;
 use amounts::pair_count;
 use amounts::place_of;
 
-#[derive(Clone, Copy)]
+#[derive(Drop)]
 pub struct Beside<First, Second> {
     first: First,
     second: Second,

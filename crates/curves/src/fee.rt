@@ -10,7 +10,7 @@ use crate::sides::with_room;
 use amounts::Rate;
 use amounts::RateFault;
 
-#[derive(Clone, Copy)]
+#[derive(Drop)]
 pub struct Fee<C> {
     inner: C,
     rate: Rate,

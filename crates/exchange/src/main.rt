@@ -3,11 +3,13 @@ mod figure_lines;
 mod payments;
 mod quotes;
 mod stop;
+mod tolls;
 
 use stop::Stop;
 
 fn main(rt: LibcRuntime) -> Result<(), Stop> {
     figure_lines::show(&rt)?;
     quotes::show(&rt)?;
-    payments::show(&rt)
+    payments::show(&rt)?;
+    tolls::show(&rt)
 }

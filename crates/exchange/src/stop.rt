@@ -1,7 +1,8 @@
 // Why the program stops before its end: it cannot print, or a bank was not made.
 ghost use mathlib.Core.Path.{_≡_};
-ghost use Rattle.exchange.specs.declared.stop.Stop.the-variants.{Print, Curves, Ledger};
+ghost use Rattle.exchange.specs.declared.stop.Stop.the-variants.{Print, Curves, Ledger, Hooks};
 use amounts::RateFault;
+use hooks::HookSetupFault;
 use std::io;
 use tokens::OpeningFault;
 
@@ -10,6 +11,7 @@ pub enum Stop {
     Print(io::Error),
     Curves(RateFault),
     Ledger(OpeningFault),
+    Hooks(HookSetupFault),
 }
 
 pub impl From<io::Error> for Stop as StopFromPrint {
@@ -33,5 +35,13 @@ pub impl From<OpeningFault> for Stop as StopFromOpening {
 
     fn from(e: OpeningFault) -> Stop {
         Stop::Ledger(e)
+    }
+}
+
+pub impl From<HookSetupFault> for Stop as StopFromHook {
+    ghost converts = { λ e r. r ≡ Hooks e };
+
+    fn from(e: HookSetupFault) -> Stop {
+        Stop::Hooks(e)
     }
 }

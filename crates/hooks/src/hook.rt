@@ -4,7 +4,7 @@ ghost use mathlib.Core.Bool.{true};
 ghost use Rattle.hooks.specs.Rules.{sound-hook};
 use crate::rule::HookRule;
 
-#[derive(Clone, Copy)]
+#[derive(Drop)]
 pub struct Hook {
     pub(crate) rule: HookRule,
     pub(crate) payee: u32,
