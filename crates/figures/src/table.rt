@@ -1,5 +1,7 @@
 // The fourteen figures.
+ghost use mathlib.Core.Path.{_≡_};
 ghost use Rattle.figures.specs.Holds.{AllHold};
+ghost use Rattle.figures.specs.Worked.{worked};
 use crate::question::Answer;
 use crate::question::Question;
 
@@ -11,7 +13,13 @@ pub struct Figure {
 
 // Each answer is the one that the definitions give over the example curves.
 pub fn figures() -> [Figure; 14]
-    ensures { λ r. ⌜ AllHold r ⌝ }
+    ensures { λ r. ⌜ r ≡ worked ⌝ ∗ ⌜ AllHold r ⌝ }
+{
+    listed()
+}
+
+fn listed() -> [Figure; 14]
+    ensures { λ r. ⌜ r ≡ worked ⌝ }
 {
     [
         Figure {
