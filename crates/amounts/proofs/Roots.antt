@@ -6,7 +6,7 @@ use native.Mathlib.Nat.{mul-le-mul, lt-of-not-le}
 use native.Mathlib.Omega.{arith}
 use lib.Dec.{leb}
 use borrow.Author.Tests.{leb-true, leb-false}
-use Rattle.amounts.specs.Shares.{next-digit, root-below, root}
+use Rattle.amounts.specs.Shares.{root-below, root}
 
 abbrev pub Root : ℕ → ℕ → Type 0
 Root r n = (r * r ≤ n) × (n < (r + 1) * (r + 1))

@@ -1,6 +1,5 @@
 // Two banks side by side: how many numbers the pair has, and whose each number is.
 ghost use mathlib.Core.Path.{_≡_};
-ghost use Prim.Native.Nat.{ℕ};
 ghost use Rattle.amounts.specs.Pair.{both, place};
 
 // A number of a pair as the bank that has it counts.

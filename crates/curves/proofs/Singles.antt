@@ -1,19 +1,18 @@
 -- A bank of one curve whose measure does not tell its sides apart shows all laws, if the curve shows them in direction 0.
 -- So product and sum do. Assumes nothing.
-use mathlib.Core.Path.{_≡_, sym, subst}
+use mathlib.Core.Path.{_≡_, refl, subst}
 use mathlib.Core.Bool.{Bool, true, false, cond, _||_}
 use mathlib.Core.Logic.{_⊎_, inl, inr}
-use mathlib.Core.Path.{refl}
 use Prim.Native.Nat.{ℕ, _+_, _-_, _*_, _/_, _^_, _≤_}
 use native.Mathlib.Nat.{mul-comm, mul-le-mul, add-comm}
 use native.Mathlib.Omega.{arith}
 use lib.Dec.{eqb, leb, ltb}
 use Rattle.std.proofs.shelf.Ways.{tells}
 use Rattle.std.specs.declared.option.Option.{Option}
-use Rattle.std.specs.declared.option.Option.the-variants.{Some, None}
+use Rattle.std.specs.declared.option.Option.the-variants.{Some}
 use Rattle.amounts.specs.Rounding.{most}
 use Rattle.curves.specs.Meaning.{Fair, Lawful, in-side, out-side}
-use Rattle.curves.specs.Single.{unless, seen, single, product, product-buy, product-price, product-input, sum, sum-trade}
+use Rattle.curves.specs.Single.{single, product, product-buy, product-price, product-input, sum, sum-trade}
 use Rattle.curves.proofs.Options.{passed, barred, same-number}
 use Rattle.curves.proofs.Floors.{floor-le, bought-keeps, priced-keeps, product-scales, sum-scales}
 

@@ -1,5 +1,4 @@
 -- Two banks of curves side by side. Assumes nothing.
-use Prim.Native.Nat.{ℕ}
 use lib.Dec.{leb}
 use Rattle.amounts.specs.Pair.{both, split}
 use Rattle.curves.specs.Meaning.{Curves}

@@ -1,6 +1,5 @@
 // The interface of a curve bank: a fixed count of curves, read only.
 ghost use mathlib.Core.Path.{_≡_};
-ghost use Prim.Native.Nat.{ℕ};
 ghost use Rattle.curves.specs.Meaning.{Curves, Lawful};
 ghost use Rattle.curves.specs.Answers.{answered};
 

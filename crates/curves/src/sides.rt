@@ -1,7 +1,7 @@
 // The two sides of an exchange, and the room on the in side: the tests that every curve makes.
 ghost use mathlib.Core.Path.{_≡_};
 ghost use mathlib.Core.Bool.{true, false, _||_};
-ghost use Prim.Native.Nat.{ℕ, _+_};
+ghost use Prim.Native.Nat.{_+_};
 ghost use lib.Dec.{ltb};
 ghost use Rattle.std.specs.Results.{Cases};
 ghost use Rattle.amounts.specs.Rounding.{most};

@@ -13,7 +13,7 @@ use Rattle.std.specs.declared.result.Result.{Result}
 use Rattle.std.specs.declared.result.Result.the-variants.{Ok, Err}
 use Rattle.tokens.specs.declared.bank.TokenFault.{TokenFault}
 use Rattle.tokens.specs.Beside.{beside}
-use Rattle.tokens.specs.Meaning.{Tokens, sum-below, shifted, moved, unmoved}
+use Rattle.tokens.specs.Meaning.{Tokens, sum-below, shifted}
 use Rattle.tokens.specs.Moves.{Lawful, after, transfer-answer, after-transfer, unmove-answer, after-unmove}
 use Rattle.tokens.proofs.Laws.{lawful-from}
 use Rattle.tokens.proofs.Shifts.{same-tokens}

@@ -1,5 +1,5 @@
 -- What writes to the rows and pots of a ledger mean. Assumes nothing.
-use mathlib.Core.Path.{_≡_, refl, sym, ap, subst, _∙_}
+use mathlib.Core.Path.{_≡_, refl, ap, _∙_}
 use mathlib.Core.Bool.{cond, _&&_}
 use mathlib.Core.List.{List, []}
 use mathlib.Core.Logic.{⊎-elim}
@@ -12,7 +12,7 @@ use Rattle.std.proofs.shelf.Tests.{cases-eq}
 use Rattle.std.proofs.shelf.Ways.{tells}
 use Rattle.amounts.specs.Rounding.{most}
 use Rattle.tokens.specs.Ledgers.{cell, ledger, Shaped, Bounded, Shift}
-use Rattle.tokens.specs.Meaning.{Tokens, sum-below, total, shifted}
+use Rattle.tokens.specs.Meaning.{Tokens, total, shifted}
 use Rattle.tokens.specs.declared.ledger.Ledger.{Ledger}
 use Rattle.tokens.proofs.Sums.{two-of-sum}
 use Rattle.tokens.proofs.Shifts.{same-tokens, shift-keeps}

@@ -1,9 +1,7 @@
 -- What a ledger means, what every ledger keeps, and from which opening one is made. Assumes nothing.
 use mathlib.Core.Path.{_≡_}
-use mathlib.Core.Bool.{Bool, true, false, cond, _&&_}
 use mathlib.Core.List.{List, []}
-use Prim.Native.Nat.{ℕ, zero, suc, _+_, _-_, _≤_, _<_}
-use lib.Dec.{leb}
+use Prim.Native.Nat.{ℕ, _+_, _-_, _≤_, _<_}
 use lib.ListN.{length, getD}
 use Rattle.amounts.specs.Rounding.{most, part}
 use Rattle.tokens.specs.Meaning.{Tokens, sum-below}
