@@ -13,3 +13,4 @@ pub use numbers::currency;
 pub use numbers::flag;
 pub use numbers::increased;
 pub use numbers::step;
+pub use numbers::step_in;

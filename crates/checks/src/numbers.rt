@@ -1,6 +1,6 @@
 // Tests of single numbers.
 ghost use mathlib.Core.Path.{_≡_};
-ghost use mathlib.Core.Bool.{true, false};
+ghost use mathlib.Core.Bool.{true, false, cond, not, _||_};
 ghost use Prim.Native.Nat.{_+_, _≤_};
 ghost use lib.Dec.{eqb};
 ghost use Rattle.std.specs.Results.{Cases};
@@ -85,6 +85,13 @@ pub fn step(steps: u32) -> Result<u32, Cause>
         return Err(Cause::Steps);
     }
     Ok(steps + 1)
+}
+
+// The step count after a call that is a step only in a session.
+pub fn step_in(session: bool, steps: u32) -> Result<u32, Cause>
+    ensures { λ r. ⌜ Cases r (λ n. (n ≡ cond session (steps + 1) steps) × ((not session || has-step steps) ≡ true)) (λ f. (f ≡ no-step) × ((not session || has-step steps) ≡ false)) ⌝ }
+{
+    if session { step(steps) } else { Ok(steps) }
 }
 
 // A claim or a holding after it rose, where it has room.
