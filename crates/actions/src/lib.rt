@@ -1,4 +1,5 @@
 // The calls on records and banks as values, and what each one does.
+#![tactic(auto)]
 mod action;
 mod dispatch;
 

@@ -1,4 +1,6 @@
 // The numbers that every layer shares: the largest amount, rates, and what deposits and withdrawals come to.
+#![tactic(auto)]
+
 mod pair;
 mod rate;
 mod rates;

@@ -1,4 +1,6 @@
 // The records of the vault: pools, shares, claims, allowances, operators, deltas, the sync mark and the step count.
+#![tactic(auto)]
+
 mod cell;
 mod ids;
 mod new;

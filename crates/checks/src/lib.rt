@@ -1,4 +1,5 @@
 // The tests that calls make, each with its refusal: a number that passed one is of a type of its own.
+#![tactic(auto)]
 mod deltas;
 mod numbers;
 

@@ -1,4 +1,5 @@
 // Claims made and used up: what each call does to the store, check by check.
+#![tactic(auto)]
 mod mints;
 mod rights;
 

@@ -1,4 +1,5 @@
 // Quotes, pays, asks hooks and runs sessions on the ready-made banks, and tells in print what was asked and what came.
+#![tactic(auto)]
 mod figure_lines;
 mod payments;
 mod quotes;

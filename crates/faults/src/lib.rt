@@ -1,4 +1,5 @@
 // Why the vault refuses a call, with the place where it happened.
+#![tactic(auto)]
 mod cause;
 mod report;
 

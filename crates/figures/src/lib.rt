@@ -1,4 +1,5 @@
 // Worked figures of the rules: questions with the answers that the definitions give.
+#![tactic(auto)]
 mod bank;
 mod question;
 mod table;

@@ -1,4 +1,6 @@
 // A journal of any kind of entry: undone from the last, an entry gives back what held before it was written.
+#![tactic(auto)]
+
 ghost use Rattle.std.specs.Prelude.{◌≡◌};
 ghost use Rattle.journal.specs.Rewound.{rewound};
 
@@ -16,7 +18,7 @@ pub trait Undo<E> {
 
 // Undoes a part of the journal, from its last entry to its first.
 pub fn rewind<E, W: Undo<E>>(state: &mut W, entries: &[E])
-    ensures { model state.new ≡ rewound undone (model state.old) entries.now }
+    ensures { W.model state.new ≡ rewound W.undone (W.model state.old) entries.now }
 {
     let mut left = entries.len();
     while left > 0 {

@@ -1,4 +1,5 @@
 // Runs of calls on a new vault, and the law that holds of every one.
+#![tactic(auto)]
 mod ended;
 mod ends;
 mod line;

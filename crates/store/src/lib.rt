@@ -1,4 +1,5 @@
 // The book and the banks with a journal: every recorded change can be undone, and what earlier marks restore stays.
+#![tactic(auto)]
 mod answer;
 mod changes;
 mod entry;

@@ -1,4 +1,5 @@
 // What a book holds of a currency, all records and rows together, and how many debts are open.
+#![tactic(auto)]
 mod debts;
 mod sums;
 

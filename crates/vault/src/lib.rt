@@ -1,4 +1,5 @@
 // The vault over any token and hook bank: sessions, frames, slips and all calls.
+#![tactic(auto)]
 mod call;
 mod calls;
 mod inside;

@@ -3,11 +3,11 @@ use Rattle.std.proofs.lemmas.List.{length-set}
 use Rattle.tokens.proofs.Writes.{room, still_shaped, still_bounded, written}
 use Rattle.tokens.proofs.ledger.Ledger.shift.Goals as goal
 
-pub overflow-add-self : goal.overflow-add-self
-overflow-add-self c = let r = room c.args.self.now c.args.c c.args.payer c.args.fall c.args.payee c.args.rise c.args.pot c.requires in search rules
+pub overflow_add-self : goal.overflow_add-self
+overflow_add-self c = let r = room c.args.self.now c.args.c c.args.payer c.args.fall c.args.payee c.args.rise c.args.pot c.requires in search rules
 
-pub overflow-cast-self : goal.overflow-cast-self
-overflow-cast-self c = let r = room c.args.self.now c.args.c c.args.payer c.args.fall c.args.payee c.args.rise c.args.pot c.requires in search rules
+pub overflow_cast-self : goal.overflow_cast-self
+overflow_cast-self c = let r = room c.args.self.now c.args.c c.args.payer c.args.fall c.args.payee c.args.rise c.args.pot c.requires in search rules
 
 pub invariant-of-self : goal.invariant-of-self
 invariant-of-self c = (
