@@ -2,4 +2,3 @@ pub mod Checks
 pub mod Pair
 pub mod Rounding
 pub mod Shares
-pub mod Rows

@@ -1,6 +1,5 @@
 -- A cell written twice, the second time with what stood there, leaves the book as it was. Assumes nothing.
 use mathlib.Core.Path.{◌≡◌, refl, ap, ◌∙◌}
-use mathlib.Core.Bool.{false}
 use mathlib.Core.List.{List, [], ◌∷◌}
 use Prim.Native.Nat.{ℕ, zero, suc}
 use lib.IntN.{pos}
@@ -11,7 +10,7 @@ use Rattle.book.specs.declared.cell.Cell.TheVariants as cell
 use Rattle.book.specs.declared.records.Allowed.{Allowed}
 use Rattle.book.specs.declared.records.Book.{Book}
 use Rattle.book.specs.Cells.{written, former, no_pool, allowed, allow}
-use Rattle.amounts.specs.Rows.{at2, put2}
+use Rattle.book.specs.Rows.{at2, put2}
 
 back1 : {A : Type 0} (row : List A) (i : ℕ) (v d : A) → set (set row i v) i (get_or row i d) ≡ row
 back1 row i v d = set-set row i v (get_or row i d) ∙ set-get_or row i d
@@ -31,7 +30,6 @@ back b (cell.Pool p to) = ap (λ rows. record { pools = record { rows = rows; co
 back b (cell.Share p who to) = ap (λ rows. record { pools = b.pools; shares = rows; claims = b.claims; allowances = b.allowances; operators = b.operators; deltas = b.deltas; mark = b.mark; steps = b.steps }) (back2 b.shares p.number who.number to 0)
 back b (cell.Claim who c to) = ap (λ rows. record { pools = b.pools; shares = b.shares; claims = rows; allowances = b.allowances; operators = b.operators; deltas = b.deltas; mark = b.mark; steps = b.steps }) (back2 b.claims who.number c.number to 0)
 back b (cell.Allowance owner spender c to) = ap (λ rows. record { pools = b.pools; shares = b.shares; claims = b.claims; allowances = rows; operators = b.operators; deltas = b.deltas; mark = b.mark; steps = b.steps }) (allow_back b.allowances owner.number spender.number c.number to)
-back b (cell.Operator owner spender to) = ap (λ rows. record { pools = b.pools; shares = b.shares; claims = b.claims; allowances = b.allowances; operators = rows; deltas = b.deltas; mark = b.mark; steps = b.steps }) (back2 b.operators owner.number spender.number to false)
 back b (cell.Delta who c to) = ap (λ rows. record { pools = b.pools; shares = b.shares; claims = b.claims; allowances = b.allowances; operators = b.operators; deltas = rows; mark = b.mark; steps = b.steps }) (back2 b.deltas who.number c.number to (pos 0))
 back b (cell.Mark to) = refl
 back b (cell.Steps to) = refl

@@ -14,7 +14,7 @@ const NO_POOL: Pool = Pool {
     total: 0,
 };
 
-pub const NO_MARK: Mark = Mark {
+const NO_MARK: Mark = Mark {
     set: false,
     currency: 0,
     balance: 0,

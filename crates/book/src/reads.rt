@@ -1,8 +1,7 @@
 // What stands in a cell.
-ghost use Rattle.std.specs.Prelude.{◌≡◌, false};
-ghost use Rattle.book.specs.Cells.{no_pool};
-ghost use Rattle.book.specs.Reads.{delta as delta_of, claim as claim_of, allowance as allowance_of};
-ghost use Rattle.amounts.specs.Rows.{at1, at2};
+ghost use Rattle.std.specs.Prelude.{◌≡◌, false, pos};
+ghost use Rattle.book.specs.Cells.{no_pool, allowed};
+ghost use Rattle.book.specs.Rows.{at1, at2};
 
 use crate::ids::{Account, Currency, PoolId};
 use crate::records::{Book, Pool};
@@ -21,13 +20,13 @@ impl Book {
     }
 
     pub fn claim(&self, who: Account, c: Currency) -> u32
-        ensures { result ≡ claim_of self.now who.number c.number }
+        ensures { result ≡ at2 self.now.claims who.number c.number 0 }
     {
         self.claims[who.number as usize][c.number as usize]
     }
 
     pub fn allowance(&self, owner: Account, spender: Account, c: Currency) -> u32
-        ensures { result ≡ allowance_of self.now owner.number spender.number c.number }
+        ensures { result ≡ allowed self.now.allowances owner.number spender.number c.number }
     {
         let allowed = &self.allowances[owner.number as usize];
         allowed.rows[spender.number as usize][c.number as usize]
@@ -40,7 +39,7 @@ impl Book {
     }
 
     pub fn delta(&self, who: Account, c: Currency) -> i64
-        ensures { result ≡ delta_of self.now who.number c.number }
+        ensures { result ≡ at2 self.now.deltas who.number c.number (pos 0) }
     {
         self.deltas[who.number as usize][c.number as usize]
     }

@@ -1,8 +1,9 @@
 // One cell written, and nothing else changed.
 ghost use Rattle.std.specs.Prelude.{◌≡◌};
-ghost use Rattle.book.specs.Cells.{written, former};
+ghost use Rattle.book.specs.Cells.{written, former, with_operator};
 
 use crate::cell::Cell;
+use crate::ids::Account;
 use crate::records::Book;
 
 impl Book {
@@ -33,11 +34,6 @@ impl Book {
                     to;
                 Cell::Allowance(owner, spender, c, old)
             }
-            Cell::Operator(owner, spender, to) => {
-                let old = self.operators[owner.number as usize][spender.number as usize];
-                self.operators[owner.number as usize][spender.number as usize] = to;
-                Cell::Operator(owner, spender, old)
-            }
             Cell::Delta(who, c, to) => {
                 let old = self.deltas[who.number as usize][c.number as usize];
                 self.deltas[who.number as usize][c.number as usize] = to;
@@ -54,5 +50,11 @@ impl Book {
                 Cell::Steps(old)
             }
         }
+    }
+
+    pub fn put_operator(&mut self, owner: Account, spender: Account, to: bool)
+        ensures { self.new ≡ with_operator self.old owner.number spender.number to }
+    {
+        self.operators[owner.number as usize][spender.number as usize] = to;
     }
 }

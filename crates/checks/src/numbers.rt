@@ -1,6 +1,6 @@
 // Tests of single numbers.
-ghost use Rattle.std.specs.Prelude.{◌≡◌, ◌+◌, ◌≤◌, true, false, not, ◌||◌, MatchResult, ◌==◌};
-ghost use Rattle.checks.specs.Tests.{is_account, is_account_or_vault, is_currency, is_amount, is_amount_or_none, is_flag, are_apart, has_step, steps_after, has_room};
+ghost use Rattle.std.specs.Prelude.{◌≡◌, ◌+◌, ◌≤◌, true, false, not, ◌||◌, if◌then◌else◌, MatchResult, ◌==◌};
+ghost use Rattle.checks.specs.Tests.{is_account, is_account_or_vault, is_currency, is_amount, is_amount_or_none, is_flag, are_apart, has_step, has_room};
 ghost use Rattle.faults.specs.declared.cause.Cause.TheVariants.{Account as no_account, Currency as no_currency, Amount as no_amount, Choice as no_choice, SameAccount as one_account, Steps as no_step, Full as full};
 
 use amounts::MOST;
@@ -85,7 +85,7 @@ pub fn step(steps: u32) -> Result<u32, Cause>
 
 // The step count after a call that is a step only in a session.
 pub fn step_in(session: bool, steps: u32) -> Result<u32, Cause>
-    ensures { MatchResult result (λ n. (n ≡ steps_after session steps) × ((not session || has_step steps) ≡ true)) (λ f. (f ≡ no_step) × ((not session || has_step steps) ≡ false)) }
+    ensures { MatchResult result (λ n. (n ≡ (if session then steps + 1 else steps)) × ((not session || has_step steps) ≡ true)) (λ f. (f ≡ no_step) × ((not session || has_step steps) ≡ false)) }
 {
     if session { step(steps) } else { Ok(steps) }
 }

@@ -1,7 +1,9 @@
-// Claims made and used up: what each call does to the store, check by check.
+// Calls on claims: what each does to the store, check by check.
 #![tactic(auto)]
+
+mod hands;
 mod mints;
 mod rights;
 
+pub use hands::{allow, hand};
 pub use mints::{burn, mint};
-pub use rights::{allowance_after, decreased};

@@ -9,7 +9,7 @@ use book::Cell;
 use checks::{account, amount, increased, lowered, raised, step};
 use faults::VaultFault;
 use hooks::HookBank;
-use store::{Answer, Store};
+use store::Store;
 use tokens::TokenBank;
 
 pub fn mint<T: TokenBank, H: HookBank>(
@@ -18,8 +18,8 @@ pub fn mint<T: TokenBank, H: HookBank>(
     to: u32,
     c: u32,
     a: u32,
-) -> Result<Answer, VaultFault>
-    requires { store.old.len ≤ 384 }
+) -> Result<(), VaultFault>
+    requires { store.old.len ≤ 378 }
     ensures { Meets T.TokenBank.meaning H.HookBank.meaning (mint_outcome (world T.TokenBank.meaning H.HookBank.meaning store.old.held) who to c a) store.old store.new result }
 {
     let who = account(who)?;
@@ -34,7 +34,7 @@ pub fn mint<T: TokenBank, H: HookBank>(
         Cell::Claim(to, c, claim),
         Cell::Steps(steps),
     ]);
-    Ok(Answer::Done)
+    Ok(())
 }
 
 pub fn burn<T: TokenBank, H: HookBank>(
@@ -43,8 +43,8 @@ pub fn burn<T: TokenBank, H: HookBank>(
     from: u32,
     c: u32,
     a: u32,
-) -> Result<Answer, VaultFault>
-    requires { store.old.len ≤ 384 }
+) -> Result<(), VaultFault>
+    requires { store.old.len ≤ 378 }
     ensures { Meets T.TokenBank.meaning H.HookBank.meaning (burn_outcome (world T.TokenBank.meaning H.HookBank.meaning store.old.held) who from c a) store.old store.new result }
 {
     let who = account(who)?;
@@ -61,5 +61,5 @@ pub fn burn<T: TokenBank, H: HookBank>(
         Cell::Delta(who, c, delta),
         Cell::Steps(steps),
     ]);
-    Ok(Answer::Done)
+    Ok(())
 }

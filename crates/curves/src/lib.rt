@@ -1,5 +1,6 @@
 // Curve banks: what a pool sells for an input, and which input an output costs.
 #![tactic(auto)]
+
 mod bank;
 mod beside;
 mod fee;

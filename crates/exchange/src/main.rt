@@ -1,13 +1,11 @@
-// Quotes, pays, asks hooks and runs sessions on the ready-made banks, and tells in print what was asked and what came.
+// Quotes, pays and asks hooks on the ready-made banks, and tells in print what was asked and what came.
 #![tactic(auto)]
+
 mod figure_lines;
 mod payments;
 mod quotes;
-mod session;
 mod stop;
-mod strays;
 mod tolls;
-mod words;
 
 use stop::Stop;
 
@@ -15,6 +13,5 @@ fn main(rt: HostRuntime) -> Result<(), Stop> {
     figure_lines::show(&rt)?;
     quotes::show(&rt)?;
     payments::show(&rt)?;
-    tolls::show(&rt)?;
-    session::show(&rt)
+    tolls::show(&rt)
 }

@@ -1,5 +1,6 @@
 // Why the vault refuses a call, with the place where it happened.
 #![tactic(auto)]
+
 mod cause;
 mod report;
 

@@ -1,5 +1,6 @@
 // Worked figures of the rules: questions with the answers that the definitions give.
 #![tactic(auto)]
+
 mod bank;
 mod question;
 mod table;

@@ -1,6 +1,5 @@
 -- A bank of hooks, what its operations answer, and what they leave. Assumes nothing.
-use Rattle.std.specs.Prelude.{ℕ, Bool, true, false, cond, ◌&&◌, Ok, Err, Result, nat_lt}
-use Rattle.amounts.specs.Rows.{at}
+use Rattle.std.specs.Prelude.{ℕ, Bool, true, false, cond, ◌&&◌, Ok, Err, Result, ◌==◌, nat_lt}
 use Rattle.hooks.specs.declared.bank.HookFault.{HookFault}
 use Rattle.hooks.specs.declared.bank.HookFault.TheVariants.{Unknown, Denied, Illegal}
 
@@ -29,6 +28,10 @@ known m h = nat_lt h m.count
 -- what the hook says at its present number
 abbrev pub verdict : Hooks → ℕ → ℕ → ℕ → Verdict
 verdict m h i o = m.ask h (m.number h) i o
+
+-- f with another value at one place
+abbrev pub at : (ℕ → ℕ) → ℕ → ℕ → ℕ → ℕ
+at f i v k = cond (k == i) v (f k)
 
 -- all as it is, but for one hook's number
 abbrev pub numbered : Hooks → ℕ → ℕ → Hooks

@@ -6,8 +6,7 @@ use Rattle.hooks.specs.declared.ready.HookSetupFault.{HookSetupFault}
 use Rattle.hooks.specs.declared.ready.HookSetupFault.TheVariants.{Payee, Rate, Cap, Number}
 use Rattle.hooks.specs.declared.rule.HookRule.{HookRule}
 use Rattle.hooks.specs.declared.rule.HookRule.TheVariants.{Open, Toll, Volume}
-use Rattle.amounts.specs.Rows.{at}
-use Rattle.hooks.specs.Meaning.{Hooks}
+use Rattle.hooks.specs.Meaning.{Hooks, at}
 use Rattle.hooks.specs.Rules.{rule_legal, rule_ask, rule_step, lawful_payee}
 
 -- hook 0, and no other

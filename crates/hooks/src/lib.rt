@@ -1,5 +1,6 @@
 // Hook banks: what a bank of hooks answers, three ready-made hooks, and two banks side by side.
 #![tactic(auto)]
+
 mod bank;
 mod beside;
 mod hook;

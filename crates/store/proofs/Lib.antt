@@ -1,2 +1,1 @@
 pub mod Chained
-pub mod Rooms

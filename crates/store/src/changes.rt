@@ -4,14 +4,13 @@ ghost use Rattle.checks.specs.Tests.{is_currency};
 ghost use Rattle.faults.specs.declared.cause.Cause.TheVariants.{Currency as no_currency};
 ghost use Rattle.book.specs.Cells.{written};
 ghost use Rattle.hooks.specs.Meaning.{known_answer, told};
-ghost use Rattle.tokens.specs.Moves.{balance_answer, transfer_answer, after_transfer};
-ghost use Rattle.tokens.specs.Meaning.{moved};
-ghost use Rattle.store.specs.Saved.{world, saved, Kept, Changed};
+ghost use Rattle.tokens.specs.Moves.{transfer_answer, after_transfer};
+ghost use Rattle.store.specs.Saved.{world, saved, Changed};
 ghost use Rattle.store.specs.World.{with_book, with_tokens, with_hooks, all_written, entries};
 
 use crate::entry::Entry;
 use crate::state::Store;
-use book::{Account, Book, Cell, Currency};
+use book::{Book, Cell, Currency};
 use checks::currency;
 use faults::Cause;
 use hooks::{HookBank, HookFault};
@@ -25,13 +24,6 @@ impl<T: TokenBank, H: HookBank> Store<T, H> {
         &self.held.book
     }
 
-    // How many entries the journal has.
-    pub fn len(&self) -> usize
-        ensures { result ≡ self.now.len }
-    {
-        self.len
-    }
-
     // A currency that the token bank has.
     pub fn currency(&self, number: u32) -> Result<Currency, Cause>
         ensures { MatchResult result
@@ -41,16 +33,9 @@ impl<T: TokenBank, H: HookBank> Store<T, H> {
         currency(self.held.tokens.count(), number)
     }
 
-    // The vault's own balance.
-    pub fn balance(&self, c: Currency) -> Result<u32, TokenFault>
-        ensures { result ≡ balance_answer (T.TokenBank.meaning self.now.held.tokens) c.number 0 }
-    {
-        self.held.tokens.balance(c.number, 0)
-    }
-
     // Writes a cell of the book.
     fn write(&mut self, cell: Cell)
-        requires { self.old.len < 390 }
+        requires { self.old.len < 384 }
         ensures { Changed T.TokenBank.meaning H.HookBank.meaning self.old self.new 1
             (with_book (world T.TokenBank.meaning H.HookBank.meaning self.old.held) (written self.old.held.book cell)) }
     {
@@ -61,7 +46,7 @@ impl<T: TokenBank, H: HookBank> Store<T, H> {
 
     // Writes cells of the book, one after the other.
     pub fn commit(&mut self, cells: &[Cell])
-        requires { self.old.len + length cells.now ≤ 390 }
+        requires { self.old.len + length cells.now ≤ 384 }
         ensures { Changed T.TokenBank.meaning H.HookBank.meaning self.old self.new (length cells.now)
             (with_book (world T.TokenBank.meaning H.HookBank.meaning self.old.held) (all_written self.old.held.book cells.now)) }
     {
@@ -78,7 +63,7 @@ impl<T: TokenBank, H: HookBank> Store<T, H> {
         to: u32,
         amount: u32,
     ) -> Result<u32, TokenFault>
-        requires { self.old.len < 390 }
+        requires { self.old.len < 384 }
         ensures answers { result ≡ transfer_answer (T.TokenBank.meaning self.old.held.tokens) currency from to amount }
         ensures leaves { Changed T.TokenBank.meaning H.HookBank.meaning self.old self.new (entries result)
             (with_tokens (world T.TokenBank.meaning H.HookBank.meaning self.old.held) (after_transfer (T.TokenBank.meaning self.old.held.tokens) currency from to amount)) }
@@ -89,30 +74,9 @@ impl<T: TokenBank, H: HookBank> Store<T, H> {
         Ok(arrived)
     }
 
-    // Moves tokens and writes cells; where the move is refused, neither.
-    pub fn transfer_with(
-        &mut self,
-        currency: Currency,
-        from: Account,
-        to: Account,
-        amount: u32,
-        cells: &[Cell],
-    ) -> Result<u32, TokenFault>
-        requires { self.old.len + 1 + length cells.now ≤ 390 }
-        ensures answers { result ≡ transfer_answer (T.TokenBank.meaning self.old.held.tokens) currency.number from.number to.number amount }
-        ensures leaves { MatchResult result
-            (λ _. Changed T.TokenBank.meaning H.HookBank.meaning self.old self.new (1 + length cells.now)
-            (with_book (with_tokens (world T.TokenBank.meaning H.HookBank.meaning self.old.held) (moved (T.TokenBank.meaning self.old.held.tokens) currency.number from.number to.number amount)) (all_written self.old.held.book cells.now)))
-            (λ _. Changed T.TokenBank.meaning H.HookBank.meaning self.old self.new 0 (world T.TokenBank.meaning H.HookBank.meaning self.old.held)) }
-    {
-        let arrived = self.transfer(currency.number, from.number, to.number, amount)?;
-        self.commit(cells);
-        Ok(arrived)
-    }
-
     // Tells a hook; an unknown hook is refused, and nothing is recorded.
     pub fn tell(&mut self, hook: u32, input: u32, output: u32) -> Result<(), HookFault>
-        requires { self.old.len < 390 }
+        requires { self.old.len < 384 }
         ensures answers { result ≡ known_answer (H.HookBank.meaning self.old.held.hooks) hook }
         ensures leaves { Changed T.TokenBank.meaning H.HookBank.meaning self.old self.new (entries result)
             (with_hooks (world T.TokenBank.meaning H.HookBank.meaning self.old.held) (told (H.HookBank.meaning self.old.held.hooks) hook input output)) }
@@ -129,7 +93,7 @@ impl<T: TokenBank, H: HookBank> Store<T, H> {
         requires { n ≤ self.old.len }
         ensures now { world T.TokenBank.meaning H.HookBank.meaning self.new.held ≡ saved T.TokenBank.meaning H.HookBank.meaning self.old n }
         ensures shorter { self.new.len ≡ n }
-        ensures kept { Kept T.TokenBank.meaning H.HookBank.meaning self.old self.new n }
+        ensures log { self.new.log ≡ self.old.log }
     {
         let len = self.len;
         let log = &self.log;

@@ -1,12 +1,11 @@
 -- What a ledger means, what every ledger keeps, and from which opening one is made. Assumes nothing.
 use Rattle.std.specs.Prelude.{◌≡◌, ℕ, ◌+◌, ◌-◌, ◌<◌, ◌≤◌, List, [], length, slice_index, slice_index_or}
-use Rattle.amounts.specs.Rows.{at2}
 use Rattle.amounts.specs.Rounding.{most, part}
 use Rattle.tokens.specs.Meaning.{Tokens, sum_below}
 
 -- what stands in row c at place a
 abbrev pub cell : List (List ℕ) → ℕ → ℕ → ℕ
-cell rows c a = at2 rows c a 0
+cell rows c a = slice_index (slice_index_or rows c []) a
 
 abbrev pub slot : List ℕ → ℕ → ℕ
 slot pots c = slice_index pots c

@@ -1,9 +1,8 @@
 -- Sums of the first values of a function, and what a change at one or two places does to them. Assumes nothing.
-use Rattle.std.specs.Prelude.{◌≡◌, ℕ, zero, suc, ◌+◌, ◌<◌, ◌≤◌, ◌≢◌, refl}
+use Rattle.std.specs.Prelude.{◌≡◌, ℕ, zero, suc, ◌+◌, ◌<◌, ◌≤◌, cond, ◌==◌, ◌≢◌, refl}
 use Rattle.std.proofs.Common.{ap, ⊎_elim, arith}
 use Rattle.std.proofs.lemmas.Bool.{cases_eq}
 use Rattle.std.proofs.lemmas.Bool.Decides.{nat_tests}
-use Rattle.amounts.specs.Rows.{at}
 use Rattle.tokens.specs.Meaning.{sum_below}
 
 pub sum_none : (f : ℕ → ℕ) → sum_below 0 f ≡ 0
@@ -18,6 +17,10 @@ pub sum_same : (n : ℕ) (f g : ℕ → ℕ) → ((k : ℕ) → k < n → f k �
 unfolding sum_below
 sum_same zero f g e = refl
 sum_same (suc n) f g e = let h = sum_same n f g (λ k l. e k (omega arith)) in omega (arith, h, e n (omega arith))
+
+-- another value at one place
+abbrev pub at : (ℕ → ℕ) → ℕ → ℕ → ℕ → ℕ
+at f i v k = cond (k == i) v (f k)
 
 pub sum_at : (n : ℕ) (f : ℕ → ℕ) (i v : ℕ) → i < n → sum_below n (at f i v) + f i ≡ sum_below n f + v
 unfolding sum_below

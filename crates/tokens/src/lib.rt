@@ -1,5 +1,6 @@
 // Token banks: who holds how much of each currency, and what arrives of an amount that is moved.
 #![tactic(auto)]
+
 mod bank;
 mod beside;
 mod checks;

@@ -5,8 +5,8 @@ use Rattle.tokens.proofs.opening.rows_fit.Goals as goal
 pub loop-c-init : goal.loop-c-init
 loop-c-init c = fit_none c.args.rows.now
 
-pub returns-then-row-sum : goal.returns-then-row-sum
-returns-then-row-sum c = search (rules, fit_not)
+pub returns-then-row_sum : goal.returns-then-row_sum
+returns-then-row_sum c = search (rules, fit_not)
 
 pub loop-c-preserved : goal.loop-c-preserved
 loop-c-preserved c = search (rules, fit_more)

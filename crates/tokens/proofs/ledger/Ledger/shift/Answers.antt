@@ -9,17 +9,13 @@ overflow_add-self c = let r = room c.args.self.now c.args.c c.args.payer c.args.
 pub overflow_cast-self : goal.overflow_cast-self
 overflow_cast-self c = let r = room c.args.self.now c.args.c c.args.payer c.args.fall c.args.payee c.args.rise c.args.pot c.requires in search rules
 
-pub invariant-of-self : goal.invariant-of-self
-invariant-of-self c = (
-  c.args.self.now.few,
-  (
-    still_shaped c.args.self.now c.args.c c.args.payer c.args.fall c.args.payee c.args.rise c.args.pot c.requires,
-    (
-      length-set c.args.self.now.pots c.args.c c.args.pot ∙ c.args.self.now.potted,
-      (still_bounded c.args.self.now c.args.c c.args.payer c.args.fall c.args.payee c.args.rise c.args.pot c.requires, tt),
-    ),
-  ),
-)
+pub invariant_of-self : goal.invariant_of-self
+invariant_of-self c = record {
+  few = c.args.self.now.few;
+  shaped = still_shaped c.args.self.now c.args.c c.args.payer c.args.fall c.args.payee c.args.rise c.args.pot c.requires;
+  potted = length-set c.args.self.now.pots c.args.c c.args.pot ∙ c.args.self.now.potted;
+  bounded = still_bounded c.args.self.now c.args.c c.args.payer c.args.fall c.args.payee c.args.rise c.args.pot c.requires;
+}
 
 pub returns : goal.returns
 returns c = written c.args.self.now c.args.c c.args.payer c.args.fall c.args.payee c.args.rise c.args.pot c.requires c.args.self.now.rate.parts

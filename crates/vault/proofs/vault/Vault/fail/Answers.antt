@@ -5,8 +5,8 @@ use Rattle.vault.proofs.Fitting.{outer, back_fit}
 use Rattle.vault.proofs.Nesting.{abandoned_ends}
 use Rattle.vault.proofs.vault.Vault.fail.Goals as goal
 
-pub invariant-of-self : goal.invariant-of-self
-invariant-of-self g c =
+pub invariant_of-self : goal.invariant_of-self
+invariant_of-self g c =
     let v = c.args.self.now in
     let s = v.store in
     let b = c.rewind-to.new.self in

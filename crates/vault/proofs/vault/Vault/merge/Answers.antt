@@ -7,8 +7,8 @@ use Rattle.vault.proofs.Fitting.{without}
 use Rattle.vault.proofs.Nesting.{frame_open, shallower_ends, shallower_nested, shallower_rests}
 use Rattle.vault.proofs.vault.Vault.merge.Goals as goal
 
-pub invariant-of-self : goal.invariant-of-self
-invariant-of-self g c =
+pub invariant_of-self : goal.invariant_of-self
+invariant_of-self g c =
     let v = c.args.self.now in
     let s = v.store in
     let frame = frame_open v.phase c.requires in

@@ -13,8 +13,8 @@ use Rattle.vault.proofs.vault.Vault.nest.Goals as goal
 marked : (p : _) (marks : List ℕ) (n m k : ℕ) → n ≡ frames p → m ≡ k → ends (phase.Framed (frames p)) (set marks (frames p) k) ≡ k ∷ ends p marks → ends (phase.Framed n) (set marks n m) ≡ k ∷ ends p marks
 marked p marks n m k a b e = ap (λ j. ends (phase.Framed j) (set marks j m)) a ∙ ap (λ j. ends (phase.Framed (frames p)) (set marks (frames p) j)) b ∙ e
 
-pub invariant-of-self : goal.invariant-of-self
-invariant-of-self g c =
+pub invariant_of-self : goal.invariant_of-self
+invariant_of-self g c =
     let v = c.args.self.now in
     let s = v.store in
     let few = fewer v.phase c.requires in

@@ -5,8 +5,8 @@ use Rattle.vault.specs.Marks.{ends, at_rest, all_fit}
 use Rattle.vault.proofs.Performing.{Acted, step_in_session, locked_ends, empty_rests, session_rests, session_fit, locked_fit, acted_state}
 use Rattle.vault.proofs.vault.Vault.perform.Goals as goal
 
-pub invariant-of-self : goal.invariant-of-self
-invariant-of-self g c =
+pub invariant_of-self : goal.invariant_of-self
+invariant_of-self g c =
     let v = c.args.self.now in
     let a = v.store in
     let b = c.act-answer.new.store in
@@ -25,8 +25,8 @@ invariant-of-self g c =
       ),
     )
 
-pub invariant-of-self-else-not-session : goal.invariant-of-self-else-not-session
-invariant-of-self-else-not-session g c =
+pub invariant_of-self-else-not-session : goal.invariant_of-self-else-not-session
+invariant_of-self-else-not-session g c =
     let v = c.args.self.now in
     let a = v.store in
     let b = c.act-answer.new.store in

@@ -6,8 +6,8 @@ use Rattle.vault.proofs.Fitting.{outer, itself, back_fit, same_worlds}
 use Rattle.vault.proofs.Nesting.{shallower_ends, shallower_nested, shallower_rests}
 use Rattle.vault.proofs.vault.Vault.unnest.Goals as goal
 
-pub invariant-of-self : goal.invariant-of-self
-invariant-of-self g c =
+pub invariant_of-self : goal.invariant_of-self
+invariant_of-self g c =
     let v = c.args.self.now in
     let s = v.store in
     let b = c.rewind-to.new.self in

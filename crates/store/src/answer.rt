@@ -1,6 +1,0 @@
-// What an accepted call answers.
-#[derive(Clone, Copy)]
-pub enum Answer {
-    Done,
-    Amount(u32),
-}
