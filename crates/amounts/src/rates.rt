@@ -5,7 +5,7 @@ ghost use Rattle.amounts.specs.Rounding.{down, part, left, grossed};
 use crate::rate::Rate;
 
 // A rate is at most a thousand ten-thousandths.
-#[derive(Clone, Copy)]
+#[derive(Clone, Copy, Debug)]
 pub enum RateFault {
     AboveThousand,
 }

@@ -7,7 +7,7 @@ use hooks::HookSetupFault;
 use std::io;
 use tokens::OpeningFault;
 
-#[derive(Drop)]
+#[derive(Debug, Drop)]
 pub enum Stop {
     Print(io::Error),
     Curves(RateFault),

@@ -15,7 +15,7 @@ use amounts::{MOST, Rate};
 const PAST_THE_CAP: u8 = 1;
 
 // Why a hook is not made: no such payee, a rate or a cap that is too high, or a number above the cap.
-#[derive(Clone, Copy)]
+#[derive(Clone, Copy, Debug)]
 pub enum HookSetupFault {
     Payee,
     Rate,

@@ -8,7 +8,7 @@ use crate::ledger::Ledger;
 use amounts::{MOST, Rate};
 
 // Why a ledger is not made.
-#[derive(Clone, Copy)]
+#[derive(Clone, Copy, Debug)]
 pub enum OpeningFault {
     Count,
     Rate,

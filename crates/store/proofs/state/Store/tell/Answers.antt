@@ -14,13 +14,13 @@ returns g c =
     let m = g.H.HookBank.meaning s.held.hooks in
     let before : World = world g.T.TokenBank.meaning g.H.HookBank.meaning s.held in
     let after : World = with_hooks before (g.H.HookBank.meaning c.tell.new.self) in
-    let said = c.in-ok-old.ensures in
+    let said = c.in_ok-old.ensures in
     let known : c.args.hook < m.count = grind (arith, nat_tests) in
-    let old : c.in-ok-old.old ≡ m.number c.args.hook = grind (arith, nat_tests) in
+    let old : c.in_ok-old.old ≡ m.number c.args.hook = grind (arith, nat_tests) in
     let room : s.len < length s.log = search rules in
-    let undo : undone after (entry.Number c.args.hook c.in-ok-old.old) ≡ before =
+    let undo : undone after (entry.Number c.args.hook c.in_ok-old.old) ≡ before =
     ap (with_hooks before)
-    (ap (λ u. after_set u c.args.hook c.in-ok-old.old) c.tell.ensures.leaves
+    (ap (λ u. after_set u c.args.hook c.in_ok-old.old) c.tell.ensures.leaves
     ∙ ap (after_set (told m c.args.hook c.args.input c.args.output) c.args.hook) old
     ∙ tell_back m c.args.hook c.args.input c.args.output (g.met.H.HookBank.lawful s.held.hooks) known) in
     record {

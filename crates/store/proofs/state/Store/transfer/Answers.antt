@@ -13,12 +13,12 @@ returns g c =
     let t = g.T.TokenBank.meaning s.held.tokens in
     let before : World = world g.T.TokenBank.meaning g.H.HookBank.meaning s.held in
     let after : World = with_tokens before (g.T.TokenBank.meaning c.transfer.new.self) in
-    let answers : Ok c.in-ok-arrived.arrived ≡ transfer_answer t c.args.currency c.args.from c.args.to c.args.amount = sym c.in-ok-arrived.was ∙ c.transfer.ensures.answers in
+    let answers : Ok c.in_ok-arrived.arrived ≡ transfer_answer t c.args.currency c.args.from c.args.to c.args.amount = sym c.in_ok-arrived.was ∙ c.transfer.ensures.answers in
     let room : s.len < length s.log = search rules in
     let undo : undone after (entry.Move c.args.currency c.args.from c.args.to c.args.amount) ≡ before =
     ap (with_tokens before)
     (ap (λ u. after_unmove u c.args.currency c.args.from c.args.to c.args.amount) c.transfer.ensures.leaves
-    ∙ move_back t c.args.currency c.args.from c.args.to c.args.amount c.in-ok-arrived.arrived (g.met.T.TokenBank.lawful s.held.tokens) (sym answers)) in
+    ∙ move_back t c.args.currency c.args.from c.args.to c.args.amount c.in_ok-arrived.arrived (g.met.T.TokenBank.lawful s.held.tokens) (sym answers)) in
     record {
       answers = answers;
       leaves = record { now = ap (with_tokens before) c.transfer.ensures.leaves; longer = refl; kept = λ n m. kept undone before after s.log s.len n _ room m undo };
