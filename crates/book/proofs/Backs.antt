@@ -1,5 +1,6 @@
 -- A cell written twice, the second time with what stood there, leaves the book as it was. Assumes nothing.
 use mathlib.Core.Path.{◌≡◌, refl, ap, ◌∙◌}
+use mathlib.Core.Bool.{false}
 use mathlib.Core.List.{List, [], ◌∷◌}
 use Prim.Native.Nat.{ℕ, zero, suc}
 use lib.IntN.{pos}
@@ -30,6 +31,7 @@ back b (cell.Pool p to) = ap (λ rows. record { pools = record { rows = rows; co
 back b (cell.Share p who to) = ap (λ rows. record { pools = b.pools; shares = rows; claims = b.claims; allowances = b.allowances; operators = b.operators; deltas = b.deltas; mark = b.mark; steps = b.steps }) (back2 b.shares p.number who.number to 0)
 back b (cell.Claim who c to) = ap (λ rows. record { pools = b.pools; shares = b.shares; claims = rows; allowances = b.allowances; operators = b.operators; deltas = b.deltas; mark = b.mark; steps = b.steps }) (back2 b.claims who.number c.number to 0)
 back b (cell.Allowance owner spender c to) = ap (λ rows. record { pools = b.pools; shares = b.shares; claims = b.claims; allowances = rows; operators = b.operators; deltas = b.deltas; mark = b.mark; steps = b.steps }) (allow_back b.allowances owner.number spender.number c.number to)
+back b (cell.Operator owner spender to) = ap (λ rows. record { pools = b.pools; shares = b.shares; claims = b.claims; allowances = b.allowances; operators = rows; deltas = b.deltas; mark = b.mark; steps = b.steps }) (back2 b.operators owner.number spender.number to false)
 back b (cell.Delta who c to) = ap (λ rows. record { pools = b.pools; shares = b.shares; claims = b.claims; allowances = b.allowances; operators = b.operators; deltas = rows; mark = b.mark; steps = b.steps }) (back2 b.deltas who.number c.number to (pos 0))
 back b (cell.Mark to) = refl
 back b (cell.Steps to) = refl

@@ -1,5 +1,5 @@
 -- A book with one cell written, and what stood there. Assumes nothing.
-use Rattle.std.specs.Prelude.{Bool, List, [], ℕ, ℤ, pos, set, get_or}
+use Rattle.std.specs.Prelude.{Bool, false, List, [], ℕ, ℤ, pos, set, get_or}
 use Rattle.book.specs.declared.cell.Cell.{Cell}
 use Rattle.book.specs.declared.cell.Cell.TheVariants as cell
 use Rattle.book.specs.declared.records.Allowed.{Allowed}
@@ -52,6 +52,7 @@ written b (cell.Pool p to) = with_pool b p.number to
 written b (cell.Share p who to) = with_share b p.number who.number to
 written b (cell.Claim who c to) = with_claim b who.number c.number to
 written b (cell.Allowance owner spender c to) = with_allowance b owner.number spender.number c.number to
+written b (cell.Operator owner spender to) = with_operator b owner.number spender.number to
 written b (cell.Delta who c to) = with_delta b who.number c.number to
 written b (cell.Mark to) = with_mark b to
 written b (cell.Steps to) = with_steps b to
@@ -62,6 +63,7 @@ former b (cell.Pool p to) = cell.Pool p (get_or b.pools.rows p.number no_pool)
 former b (cell.Share p who to) = cell.Share p who (at2 b.shares p.number who.number 0)
 former b (cell.Claim who c to) = cell.Claim who c (at2 b.claims who.number c.number 0)
 former b (cell.Allowance owner spender c to) = cell.Allowance owner spender c (allowed b.allowances owner.number spender.number c.number)
+former b (cell.Operator owner spender to) = cell.Operator owner spender (at2 b.operators owner.number spender.number false)
 former b (cell.Delta who c to) = cell.Delta who c (at2 b.deltas who.number c.number (pos 0))
 former b (cell.Mark to) = cell.Mark b.mark
 former b (cell.Steps to) = cell.Steps b.steps

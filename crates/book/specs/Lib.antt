@@ -1,3 +1,4 @@
 pub mod Rows
 pub mod Cells
+pub mod Reads
 pub mod New

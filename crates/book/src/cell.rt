@@ -9,6 +9,8 @@ pub enum Cell {
     Claim(Account, Currency, u32),
     // owner, spender, currency
     Allowance(Account, Account, Currency, u32),
+    // owner, spender
+    Operator(Account, Account, bool),
     Delta(Account, Currency, i64),
     Mark(Mark),
     Steps(u32),

@@ -14,7 +14,7 @@ const NO_POOL: Pool = Pool {
     total: 0,
 };
 
-const NO_MARK: Mark = Mark {
+pub const NO_MARK: Mark = Mark {
     set: false,
     currency: 0,
     balance: 0,

@@ -34,6 +34,11 @@ impl Book {
                     to;
                 Cell::Allowance(owner, spender, c, old)
             }
+            Cell::Operator(owner, spender, to) => {
+                let old = self.is_operator(owner, spender);
+                self.put_operator(owner, spender, to);
+                Cell::Operator(owner, spender, old)
+            }
             Cell::Delta(who, c, to) => {
                 let old = self.deltas[who.number as usize][c.number as usize];
                 self.deltas[who.number as usize][c.number as usize] = to;

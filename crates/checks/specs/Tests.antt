@@ -1,5 +1,5 @@
 -- The tests of the rules on single numbers. Assumes nothing.
-use Rattle.std.specs.Prelude.{ℕ, Bool, not, ◌&&◌, ℤ, pos, negsuc, ◌==◌, int_le, nat_le, nat_lt}
+use Rattle.std.specs.Prelude.{ℕ, ◌+◌, Bool, cond, not, ◌&&◌, ℤ, pos, negsuc, ◌==◌, int_le, nat_le, nat_lt}
 use Rattle.amounts.specs.Rounding.{most}
 
 -- 1 to 15
@@ -33,6 +33,10 @@ are_apart a b = not (a == b)
 abbrev pub has_step : ℕ → Bool
 has_step steps = nat_lt steps 64
 
+-- one more in a session
+abbrev pub steps_after : Bool → ℕ → ℕ
+steps_after session n = cond session (n + 1) n
+
 -- at most M
 abbrev pub has_room : ℕ → Bool
 has_room n = nat_le n most
@@ -40,3 +44,7 @@ has_room n = nat_le n most
 -- from -M to M
 abbrev pub in_range : ℤ → Bool
 in_range z = int_le (negsuc 2147483646) z && int_le z (pos most)
+
+-- exactly the amount
+abbrev pub is_delta : ℤ → ℕ → Bool
+is_delta z a = int_le z (pos a) && int_le (pos a) z

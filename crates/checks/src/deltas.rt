@@ -1,7 +1,7 @@
-// Deltas after a debit or a credit, where they stay from -M to M.
+// Deltas after a debit or a credit, where they stay from -M to M, and a delta of exactly an amount.
 ghost use Rattle.std.specs.Prelude.{◌≡◌, true, false, pos, ◌+ℤ◌, ◌-ℤ◌, MatchResult};
-ghost use Rattle.checks.specs.Tests.{in_range};
-ghost use Rattle.faults.specs.declared.cause.Cause.TheVariants.{Full as full};
+ghost use Rattle.checks.specs.Tests.{in_range, is_delta};
+ghost use Rattle.faults.specs.declared.cause.Cause.TheVariants.{Full as full, OtherDelta as other_delta};
 
 use amounts::MOST;
 use faults::Cause;
@@ -24,4 +24,13 @@ pub fn raised(delta: i64, by: u32) -> Result<i64, Cause>
         return Err(Cause::Full);
     }
     Ok(next as i64)
+}
+
+pub fn exactly(delta: i64, a: u32) -> Result<(), Cause>
+    ensures { MatchResult result (λ _. is_delta delta a ≡ true) (λ f. (f ≡ other_delta) × (is_delta delta a ≡ false)) }
+{
+    if delta != a as i64 {
+        return Err(Cause::OtherDelta);
+    }
+    Ok(())
 }

@@ -4,7 +4,7 @@
 mod deltas;
 mod numbers;
 
-pub use deltas::{lowered, raised};
+pub use deltas::{exactly, lowered, raised};
 pub use numbers::{
     account, account_or_vault, amount, amount_or_none, apart, currency, flag, increased, step,
     step_in,

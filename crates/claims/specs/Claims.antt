@@ -2,21 +2,14 @@
 use Rattle.std.specs.Prelude.{ℕ, ◌+◌, ◌-◌, Bool, false, cond, not, ◌||◌, ℤ, pos, ◌+ℤ◌, ◌-ℤ◌, ◌==◌, nat_le}
 use Rattle.amounts.specs.Rounding.{most}
 use Rattle.book.specs.declared.records.Book.{Book}
-use Rattle.book.specs.Cells.{allowed, with_claim, with_allowance, with_delta, with_steps}
+use Rattle.book.specs.Cells.{with_claim, with_allowance, with_delta, with_steps}
 use Rattle.book.specs.Rows.{at2}
+pub use Rattle.book.specs.Reads.{delta, claim, allowance}
 use Rattle.checks.specs.Tests.{is_account, is_currency, is_amount, is_amount_or_none, are_apart, has_step, has_room, in_range}
+pub use Rattle.checks.specs.Tests.{steps_after}
 use Rattle.faults.specs.declared.cause.Cause.TheVariants as cause
 use Rattle.store.specs.Outcome.{Outcome, done, need}
 use Rattle.store.specs.World.{World, with_book}
-
-abbrev pub delta : Book → ℕ → ℕ → ℤ
-delta b who c = at2 b.deltas who c (pos 0)
-
-abbrev pub claim : Book → ℕ → ℕ → ℕ
-claim b who c = at2 b.claims who c 0
-
-abbrev pub allowance : Book → ℕ → ℕ → ℕ → ℕ
-allowance b owner spender c = allowed b.allowances owner spender c
 
 -- the caller is the holder, or its operator
 abbrev pub owns : Book → ℕ → ℕ → Bool
@@ -28,10 +21,6 @@ has_right b caller from c a = owns b caller from || nat_le a (allowance b from c
 -- what is left of the allowance: it falls only where the right rests on it, and one of M never does
 abbrev pub unspent : Book → ℕ → ℕ → ℕ → ℕ → ℕ
 unspent b caller from c a = cond (owns b caller from || allowance b from caller c == most) (allowance b from caller c) (allowance b from caller c - a)
-
--- one more in a session
-abbrev pub steps_after : Bool → ℕ → ℕ
-steps_after session n = cond session (n + 1) n
 
 abbrev pub mint : World → ℕ → ℕ → ℕ → ℕ → Outcome (Unit {0})
 mint w who to c a =

@@ -2,6 +2,7 @@
 ghost use Rattle.std.specs.Prelude.{◌≤◌};
 ghost use Rattle.claims.specs.Claims.{hand as hand_outcome, allow as allow_outcome};
 ghost use Rattle.store.specs.Outcome.{Meets};
+ghost use Rattle.store.specs.Room.{Grows};
 ghost use Rattle.store.specs.Saved.{world};
 
 use crate::rights::{allowance_after, decreased};
@@ -23,7 +24,8 @@ pub fn hand<T: TokenBank, H: HookBank>(
     a: u32,
 ) -> Result<(), VaultFault>
     requires { store.old.len ≤ 378 }
-    ensures { Meets T.TokenBank.meaning H.HookBank.meaning (hand_outcome session (world T.TokenBank.meaning H.HookBank.meaning store.old.held) caller from to c a) store.old store.new result }
+    ensures comes { Meets T.TokenBank.meaning H.HookBank.meaning (hand_outcome session (world T.TokenBank.meaning H.HookBank.meaning store.old.held) caller from to c a) store.old store.new result }
+    ensures grows { Grows store.old.len store.new.len }
 {
     let caller = account(caller)?;
     let from = account(from)?;
@@ -52,7 +54,8 @@ pub fn allow<T: TokenBank, H: HookBank>(
     a: u32,
 ) -> Result<(), VaultFault>
     requires { store.old.len ≤ 378 }
-    ensures { Meets T.TokenBank.meaning H.HookBank.meaning (allow_outcome (world T.TokenBank.meaning H.HookBank.meaning store.old.held) owner spender c a) store.old store.new result }
+    ensures comes { Meets T.TokenBank.meaning H.HookBank.meaning (allow_outcome (world T.TokenBank.meaning H.HookBank.meaning store.old.held) owner spender c a) store.old store.new result }
+    ensures grows { Grows store.old.len store.new.len }
 {
     let owner = account(owner)?;
     let spender = account(spender)?;

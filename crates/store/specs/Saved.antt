@@ -15,6 +15,10 @@ module _ {T H : Type 0} (tokens : T → Tokens) (hooks : H → Hooks) where
   abbrev pub saved : Store T H → ℕ → World
   saved s n = rewound undone (world s.held) (drop n (take s.len s.log))
 
+  -- marks up to n restore what they did
+  abbrev pub Kept : Store T H → Store T H → ℕ → Type 0
+  Kept before after n = (k : ℕ) → k ≤ n → saved after k ≡ saved before k
+
   -- the world is now w, by so many entries more, and earlier marks restore what they did
   pub record Changed (before after : Store T H) (more : ℕ) (w : World) : Type 0 where
     pub now : world after.held ≡ w

@@ -2,7 +2,8 @@
 use Rattle.std.specs.Prelude.{ℕ, List, Ok, Err, fold, Result}
 use Rattle.book.specs.declared.cell.Cell.{Cell}
 use Rattle.book.specs.declared.records.Book.{Book}
-use Rattle.book.specs.Cells.{written}
+use Rattle.book.specs.Cells.{written, with_mark, with_steps}
+use Rattle.book.specs.New.{no_mark}
 use Rattle.hooks.specs.Meaning.{Hooks, after_set}
 use Rattle.tokens.specs.Meaning.{Tokens}
 use Rattle.tokens.specs.Moves.{after_unmove}
@@ -31,6 +32,10 @@ with_hooks w h = record { book = w.book; tokens = w.tokens; hooks = h }
 -- the cells written one after the other
 abbrev pub all_written : Book → List Cell → Book
 all_written b cells = fold written b cells
+
+-- after a session: no mark, and no step
+abbrev pub finished : World → World
+finished w = with_book w (with_steps (with_mark w.book no_mark) 0)
 
 -- what is accepted is one entry
 abbrev pub entries : {X E : Type 0} → Result X E → ℕ

@@ -4,13 +4,14 @@ ghost use Rattle.checks.specs.Tests.{is_currency};
 ghost use Rattle.faults.specs.declared.cause.Cause.TheVariants.{Currency as no_currency};
 ghost use Rattle.book.specs.Cells.{written};
 ghost use Rattle.hooks.specs.Meaning.{known_answer, told};
-ghost use Rattle.tokens.specs.Moves.{transfer_answer, after_transfer};
-ghost use Rattle.store.specs.Saved.{world, saved, Changed};
+ghost use Rattle.tokens.specs.Moves.{balance_answer, transfer_answer, after_transfer};
+ghost use Rattle.tokens.specs.Meaning.{moved};
+ghost use Rattle.store.specs.Saved.{world, saved, Kept, Changed};
 ghost use Rattle.store.specs.World.{with_book, with_tokens, with_hooks, all_written, entries};
 
 use crate::entry::Entry;
 use crate::state::Store;
-use book::{Book, Cell, Currency};
+use book::{Account, Book, Cell, Currency};
 use checks::currency;
 use faults::Cause;
 use hooks::{HookBank, HookFault};
@@ -24,6 +25,13 @@ impl<T: TokenBank, H: HookBank> Store<T, H> {
         &self.held.book
     }
 
+    // How many entries the journal has.
+    pub fn len(&self) -> usize
+        ensures { result ≡ self.now.len }
+    {
+        self.len
+    }
+
     // A currency that the token bank has.
     pub fn currency(&self, number: u32) -> Result<Currency, Cause>
         ensures { MatchResult result
@@ -31,6 +39,13 @@ impl<T: TokenBank, H: HookBank> Store<T, H> {
             (λ f. (f ≡ no_currency) × (is_currency (T.TokenBank.meaning self.now.held.tokens).count number ≡ false)) }
     {
         currency(self.held.tokens.count(), number)
+    }
+
+    // The vault's own balance.
+    pub fn balance(&self, c: Currency) -> Result<u32, TokenFault>
+        ensures { result ≡ balance_answer (T.TokenBank.meaning self.now.held.tokens) c.number 0 }
+    {
+        self.held.tokens.balance(c.number, 0)
     }
 
     // Writes a cell of the book.
@@ -74,6 +89,27 @@ impl<T: TokenBank, H: HookBank> Store<T, H> {
         Ok(arrived)
     }
 
+    // Moves tokens and writes cells; where the move is refused, neither.
+    pub fn transfer_with(
+        &mut self,
+        currency: Currency,
+        from: Account,
+        to: Account,
+        amount: u32,
+        cells: &[Cell],
+    ) -> Result<u32, TokenFault>
+        requires { self.old.len + 1 + length cells.now ≤ 384 }
+        ensures answers { result ≡ transfer_answer (T.TokenBank.meaning self.old.held.tokens) currency.number from.number to.number amount }
+        ensures leaves { MatchResult result
+            (λ _. Changed T.TokenBank.meaning H.HookBank.meaning self.old self.new (1 + length cells.now)
+            (with_book (with_tokens (world T.TokenBank.meaning H.HookBank.meaning self.old.held) (moved (T.TokenBank.meaning self.old.held.tokens) currency.number from.number to.number amount)) (all_written self.old.held.book cells.now)))
+            (λ _. Changed T.TokenBank.meaning H.HookBank.meaning self.old self.new 0 (world T.TokenBank.meaning H.HookBank.meaning self.old.held)) }
+    {
+        let arrived = self.transfer(currency.number, from.number, to.number, amount)?;
+        self.commit(cells);
+        Ok(arrived)
+    }
+
     // Tells a hook; an unknown hook is refused, and nothing is recorded.
     pub fn tell(&mut self, hook: u32, input: u32, output: u32) -> Result<(), HookFault>
         requires { self.old.len < 384 }
@@ -94,6 +130,7 @@ impl<T: TokenBank, H: HookBank> Store<T, H> {
         ensures now { world T.TokenBank.meaning H.HookBank.meaning self.new.held ≡ saved T.TokenBank.meaning H.HookBank.meaning self.old n }
         ensures shorter { self.new.len ≡ n }
         ensures log { self.new.log ≡ self.old.log }
+        ensures kept { Kept T.TokenBank.meaning H.HookBank.meaning self.old self.new n }
     {
         let len = self.len;
         let log = &self.log;

@@ -2,10 +2,11 @@
 ghost use Rattle.std.specs.Prelude.{◌≡◌};
 ghost use Rattle.book.specs.New.{new_book};
 ghost use Rattle.store.specs.Saved.{world};
+ghost use Rattle.store.specs.World.{finished};
 
 use crate::entry::Entry;
 use crate::state::{Held, Store};
-use book::Book;
+use book::{Book, NO_MARK};
 use hooks::HookBank;
 use tokens::TokenBank;
 
@@ -31,5 +32,15 @@ impl<T: TokenBank, H: HookBank> Store<T, H> {
         ensures empty { self.new.len ≡ 0 }
     {
         self.len = 0;
+    }
+
+    // Ends a session: what was done stays done, the mark is empty and no step is counted.
+    pub fn finish(&mut self)
+        ensures holds { world T.TokenBank.meaning H.HookBank.meaning self.new.held ≡ finished (world T.TokenBank.meaning H.HookBank.meaning self.old.held) }
+        ensures empty { self.new.len ≡ 0 }
+    {
+        self.held.book.mark = NO_MARK;
+        self.held.book.steps = 0;
+        self.forget();
     }
 }

@@ -4,6 +4,7 @@ ghost use Rattle.std.specs.Prelude.{◌≡◌, ◌≤◌, length};
 use crate::entry::Entry;
 use book::Book;
 
+#[derive(Drop)]
 pub struct Held<T, H> {
     pub(crate) book: Book,
     pub(crate) tokens: T,
@@ -11,6 +12,7 @@ pub struct Held<T, H> {
 }
 
 // Entries lie in order of writing; those from `len` on are free.
+#[derive(Drop)]
 pub struct Store<T, H> {
     pub(crate) held: Held<T, H>,
     pub(crate) log: [Entry; 384],
