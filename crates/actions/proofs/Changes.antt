@@ -9,7 +9,7 @@ use Rattle.actions.specs.Balance.{stray_of, Sized, Sound, Keeps}
 use Rattle.actions.specs.Balance.Keeps.{sound}
 use Rattle.book.specs.declared.records.Book.{Book}
 use Rattle.book.specs.Reads.{delta, claim}
-use Rattle.amounts.specs.Rows.{at2, put2}
+use Rattle.book.specs.Rows.{at2, put2}
 use Rattle.checks.specs.Tests.{is_account, is_currency, are_apart}
 use Rattle.store.specs.declared.answer.Answer.{Answer}
 use Rattle.store.specs.Outcome.{done}

@@ -1,3 +1,4 @@
+pub mod Acknowledges
 pub mod Through
 pub mod Changes
 pub mod Walks

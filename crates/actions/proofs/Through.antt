@@ -5,6 +5,6 @@ use Rattle.faults.specs.declared.cause.VaultFault.{VaultFault}
 use Rattle.faults.specs.Reports.{unplaced}
 use Rattle.store.specs.Outcome.{Outcome, refused, need}
 
-pub through : (P : Outcome → Type 0) → ((f : VaultFault) → P (refused f)) → (b : Bool) (cause : Cause) (rest : Outcome) → (b ≡ true → P rest) → P (need b cause rest)
+pub through : {A : Type 0} (P : Outcome A → Type 0) → ((f : VaultFault) → P (refused f)) → (b : Bool) (cause : Cause) (rest : Outcome A) → (b ≡ true → P rest) → P (need b cause rest)
 through P none true cause rest passed = passed refl
 through P none false cause rest passed = none (unplaced cause)

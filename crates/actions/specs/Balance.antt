@@ -50,6 +50,6 @@ pub record Sound (start w : World) (strays : ℕ → ℤ) : Type 0 where
   pub even : (c : ℕ) → Equation w c (strays c)
 
 -- an outcome leaves a sound world, with the action's own stray
-pub data Keeps (start : World) (strays : ℕ → ℤ) (a : Action) : Outcome → Type 0 where
+pub data Keeps (start : World) (strays : ℕ → ℤ) (a : Action) : Outcome Answer → Type 0 where
   nothing : (f : _) → Keeps start strays a (refused f)
   sound : (said : Answer) (w : World) → Sound start w (λ c. strays c +ℤ stray_of a said c) → Keeps start strays a (done said w)

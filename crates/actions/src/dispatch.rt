@@ -1,17 +1,26 @@
 // One action on the store.
-ghost use Rattle.std.specs.Prelude.{◌≤◌};
-ghost use Rattle.actions.specs.Acts.{act as act_outcome};
+ghost use Rattle.std.specs.Prelude.{◌≡◌, ◌≤◌};
+ghost use Rattle.actions.specs.Acts.{act as act_outcome, acknowledgement};
 ghost use Rattle.store.specs.Outcome.{Meets};
+ghost use Rattle.store.specs.Room.{Grows};
 ghost use Rattle.store.specs.Saved.{world};
 
 use crate::action::Action;
-use claims::{burn, mint};
+use claims::{allow, burn, hand, mint};
 use faults::VaultFault;
-use hands::{allow, hand, operator};
+use hands::operator;
 use hooks::HookBank;
 use payments::{clear, pay, settle, sync, take};
 use store::{Answer, Store};
 use tokens::TokenBank;
+
+// A call that has nothing to tell answers that it is done.
+fn acknowledged(said: Result<(), VaultFault>) -> Result<Answer, VaultFault>
+    ensures { result ≡ acknowledgement said }
+{
+    said?;
+    Ok(Answer::Done)
+}
 
 // In a session `pay` and `hand` are steps as well.
 pub fn act<T: TokenBank, H: HookBank>(
@@ -19,8 +28,9 @@ pub fn act<T: TokenBank, H: HookBank>(
     session: bool,
     action: Action,
 ) -> Result<Answer, VaultFault>
-    requires { store.old.len ≤ 384 }
-    ensures { Meets T.TokenBank.meaning H.HookBank.meaning (act_outcome session (world T.TokenBank.meaning H.HookBank.meaning store.old.held) action) store.old store.new result }
+    requires { store.old.len ≤ 378 }
+    ensures comes { Meets T.TokenBank.meaning H.HookBank.meaning (act_outcome session (world T.TokenBank.meaning H.HookBank.meaning store.old.held) action) store.old store.new result }
+    ensures grows { Grows store.old.len store.new.len }
 {
     match action {
         Action::Sync { c } => sync(store, c),
@@ -28,21 +38,21 @@ pub fn act<T: TokenBank, H: HookBank>(
         Action::Take { who, c, to, a } => take(store, who, c, to, a),
         Action::Pay { who, c, to, a } => pay(store, session, who, c, to, a),
         Action::Clear { who, c, a } => clear(store, who, c, a),
-        Action::Mint { who, to, c, a } => mint(store, who, to, c, a),
-        Action::Burn { who, from, c, a } => burn(store, who, from, c, a),
+        Action::Mint { who, to, c, a } => acknowledged(mint(store, who, to, c, a)),
+        Action::Burn { who, from, c, a } => acknowledged(burn(store, who, from, c, a)),
         Action::Hand {
             caller,
             from,
             to,
             c,
             a,
-        } => hand(store, session, caller, from, to, c, a),
+        } => acknowledged(hand(store, session, caller, from, to, c, a)),
         Action::Allow {
             owner,
             spender,
             c,
             a,
-        } => allow(store, owner, spender, c, a),
+        } => acknowledged(allow(store, owner, spender, c, a)),
         Action::Operator {
             owner,
             spender,

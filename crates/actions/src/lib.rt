@@ -1,5 +1,6 @@
 // The calls on records and banks as values, and what each one does.
 #![tactic(auto)]
+
 mod action;
 mod dispatch;
 

@@ -1,5 +1,6 @@
-// Claims handed on, allowances and operators: what each call does to the store, check by check.
+// Operators: what the call that names them does to the store, check by check.
 #![tactic(auto)]
+
 mod hands;
 
-pub use hands::{allow, hand, operator};
+pub use hands::operator;

@@ -6,6 +6,7 @@ use Rattle.book.specs.New.{no_mark}
 use Rattle.book.specs.Reads.{delta}
 use Rattle.checks.specs.Tests.{is_account, is_account_or_vault, is_currency, is_amount, are_apart, has_step, steps_after, in_range, is_delta}
 use Rattle.faults.specs.declared.cause.Cause.TheVariants as cause
+use Rattle.store.specs.declared.answer.Answer.{Answer}
 use Rattle.store.specs.declared.answer.Answer.TheVariants as answer
 use Rattle.store.specs.Outcome.{Outcome, done, need}
 use Rattle.store.specs.World.{World, with_book, with_tokens}
@@ -20,7 +21,7 @@ vault_balance w c = w.tokens.balance c 0
 abbrev pub is_marked : Mark → ℕ → ℕ → Bool
 is_marked m c balance = m.set && (m.currency == c && nat_le m.balance balance)
 
-abbrev pub sync : World → ℕ → Outcome
+abbrev pub sync : World → ℕ → Outcome Answer
 sync w c =
     let b = w.book in
     need (is_currency w.tokens.count c) cause.Currency
@@ -28,7 +29,7 @@ sync w c =
     (done (answer.Amount (vault_balance w c)) (with_book w (with_steps (with_mark b (record { set = true; currency = c; balance = vault_balance w c })) (b.steps + 1)))))
 
 -- what came in since the mark is credited
-abbrev pub settle : World → ℕ → ℕ → Outcome
+abbrev pub settle : World → ℕ → ℕ → Outcome Answer
 settle w who c =
     let b = w.book in
     let credit = vault_balance w c - b.mark.balance in
@@ -39,7 +40,7 @@ settle w who c =
     (need (in_range (delta b who c +ℤ pos credit)) cause.Full
     (done (answer.Amount credit) (with_book w (with_steps (with_mark (with_delta b who c (delta b who c +ℤ pos credit)) no_mark) (b.steps + 1))))))))
 
-abbrev pub take : World → ℕ → ℕ → ℕ → ℕ → Outcome
+abbrev pub take : World → ℕ → ℕ → ℕ → ℕ → Outcome Answer
 take w who c to a =
     let b = w.book in
     need (is_account who) cause.Account
@@ -52,7 +53,7 @@ take w who c to a =
     (done (answer.Amount (w.tokens.arrives c a)) (with_book (with_tokens w (moved w.tokens c 0 to a)) (with_steps (with_delta b who c (delta b who c -ℤ pos a)) (b.steps + 1))))))))))
 
 -- a step is counted and limited in a session only
-abbrev pub pay : Bool → World → ℕ → ℕ → ℕ → ℕ → Outcome
+abbrev pub pay : Bool → World → ℕ → ℕ → ℕ → ℕ → Outcome Answer
 pay session w who c to a =
     let b = w.book in
     need (is_account who) cause.Account
@@ -64,7 +65,7 @@ pay session w who c to a =
     (need (nat_le a (w.tokens.balance c who)) (cause.Token token.Short)
     (done (answer.Amount (w.tokens.arrives c a)) (with_book (with_tokens w (moved w.tokens c who to a)) (with_steps b (steps_after session b.steps))))))))))
 
-abbrev pub clear : World → ℕ → ℕ → ℕ → Outcome
+abbrev pub clear : World → ℕ → ℕ → ℕ → Outcome Answer
 clear w who c a =
     let b = w.book in
     need (is_account who) cause.Account

@@ -3,6 +3,7 @@ ghost use Rattle.std.specs.Prelude.{◌≡◌, ◌-◌, ◌≤◌, true, false, 
 ghost use Rattle.faults.specs.declared.cause.Cause.TheVariants.{Mark as no_mark};
 ghost use Rattle.payments.specs.Payments.{sync as sync_outcome, settle as settle_outcome, clear as clear_outcome, is_marked};
 ghost use Rattle.store.specs.Outcome.{Meets};
+ghost use Rattle.store.specs.Room.{Grows};
 ghost use Rattle.store.specs.Saved.{world};
 
 use book::{Cell, Currency, Mark, NO_MARK};
@@ -16,8 +17,9 @@ pub fn sync<T: TokenBank, H: HookBank>(
     store: &mut Store<T, H>,
     c: u32,
 ) -> Result<Answer, VaultFault>
-    requires { store.old.len ≤ 384 }
-    ensures { Meets T.TokenBank.meaning H.HookBank.meaning (sync_outcome (world T.TokenBank.meaning H.HookBank.meaning store.old.held) c) store.old store.new result }
+    requires { store.old.len ≤ 378 }
+    ensures comes { Meets T.TokenBank.meaning H.HookBank.meaning (sync_outcome (world T.TokenBank.meaning H.HookBank.meaning store.old.held) c) store.old store.new result }
+    ensures grows { Grows store.old.len store.new.len }
 {
     let c = store.currency(c)?;
     let steps = step(store.book().steps)?;
@@ -48,8 +50,9 @@ pub fn settle<T: TokenBank, H: HookBank>(
     who: u32,
     c: u32,
 ) -> Result<Answer, VaultFault>
-    requires { store.old.len ≤ 384 }
-    ensures { Meets T.TokenBank.meaning H.HookBank.meaning (settle_outcome (world T.TokenBank.meaning H.HookBank.meaning store.old.held) who c) store.old store.new result }
+    requires { store.old.len ≤ 378 }
+    ensures comes { Meets T.TokenBank.meaning H.HookBank.meaning (settle_outcome (world T.TokenBank.meaning H.HookBank.meaning store.old.held) who c) store.old store.new result }
+    ensures grows { Grows store.old.len store.new.len }
 {
     let who = account(who)?;
     let c = store.currency(c)?;
@@ -71,8 +74,9 @@ pub fn clear<T: TokenBank, H: HookBank>(
     c: u32,
     a: u32,
 ) -> Result<Answer, VaultFault>
-    requires { store.old.len ≤ 384 }
-    ensures { Meets T.TokenBank.meaning H.HookBank.meaning (clear_outcome (world T.TokenBank.meaning H.HookBank.meaning store.old.held) who c a) store.old store.new result }
+    requires { store.old.len ≤ 378 }
+    ensures comes { Meets T.TokenBank.meaning H.HookBank.meaning (clear_outcome (world T.TokenBank.meaning H.HookBank.meaning store.old.held) who c a) store.old store.new result }
+    ensures grows { Grows store.old.len store.new.len }
 {
     let who = account(who)?;
     let c = store.currency(c)?;

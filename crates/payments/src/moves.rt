@@ -3,6 +3,7 @@ ghost use Rattle.std.specs.Prelude.{◌≡◌, ◌≤◌, true, false, MatchResu
 ghost use Rattle.payments.specs.Payments.{take as take_outcome, pay as pay_outcome};
 ghost use Rattle.tokens.specs.declared.bank.TokenFault.TheVariants.{Short as short};
 ghost use Rattle.store.specs.Outcome.{Meets};
+ghost use Rattle.store.specs.Room.{Grows};
 ghost use Rattle.store.specs.Saved.{world};
 
 use book::{Account, Cell};
@@ -29,8 +30,9 @@ pub fn take<T: TokenBank, H: HookBank>(
     to: u32,
     a: u32,
 ) -> Result<Answer, VaultFault>
-    requires { store.old.len ≤ 384 }
-    ensures { Meets T.TokenBank.meaning H.HookBank.meaning (take_outcome (world T.TokenBank.meaning H.HookBank.meaning store.old.held) who c to a) store.old store.new result }
+    requires { store.old.len ≤ 378 }
+    ensures comes { Meets T.TokenBank.meaning H.HookBank.meaning (take_outcome (world T.TokenBank.meaning H.HookBank.meaning store.old.held) who c to a) store.old store.new result }
+    ensures grows { Grows store.old.len store.new.len }
 {
     let who = account(who)?;
     let to = account(to)?;
@@ -52,8 +54,9 @@ pub fn pay<T: TokenBank, H: HookBank>(
     to: u32,
     a: u32,
 ) -> Result<Answer, VaultFault>
-    requires { store.old.len ≤ 384 }
-    ensures { Meets T.TokenBank.meaning H.HookBank.meaning (pay_outcome session (world T.TokenBank.meaning H.HookBank.meaning store.old.held) who c to a) store.old store.new result }
+    requires { store.old.len ≤ 378 }
+    ensures comes { Meets T.TokenBank.meaning H.HookBank.meaning (pay_outcome session (world T.TokenBank.meaning H.HookBank.meaning store.old.held) who c to a) store.old store.new result }
+    ensures grows { Grows store.old.len store.new.len }
 {
     let who = account(who)?;
     let to = account_or_vault(to)?;

@@ -3,10 +3,10 @@ use Rattle.std.proofs.Common.{◌≡◌, ◌+◌, false, leb, pos, Ok, refl, ap,
 use Rattle.std.proofs.lemmas.Bool.{true≢false}
 use Rattle.actions.specs.declared.action.Action.{Action}
 use Rattle.actions.specs.declared.action.Action.TheVariants as action
-use Rattle.actions.specs.Acts.{act}
+use Rattle.actions.specs.Acts.{act, acknowledged}
 use Rattle.actions.proofs.Through.{through}
 use Rattle.book.specs.Reads.{claim}
-use Rattle.amounts.specs.Rows.{at2}
+use Rattle.book.specs.Rows.{at2}
 use Rattle.checks.specs.Tests.{is_account, is_account_or_vault, is_currency, is_amount, is_amount_or_none, is_flag, are_apart, has_room}
 use Rattle.claims.specs.Claims.{has_right}
 use Rattle.store.specs.declared.answer.Answer.{Answer}
@@ -18,7 +18,7 @@ use Rattle.vault.specs.Turns.{locked_meets}
 use Rattle.runs.specs.Law.{AtRest}
 
 -- what is done is at rest
-abbrev Rests : Outcome → Type 0
+abbrev Rests : Outcome Answer → Type 0
 Rests (refused f) = Unit
 Rests (done said w) = AtRest w
 
@@ -42,7 +42,7 @@ locked_rests w (action.Clear who c a) e r = absurd (true≢false (cc e))
 locked_rests w (action.Mint who to c a) e r = absurd (true≢false (cc e))
 locked_rests w (action.Burn who from c a) e r = absurd (true≢false (cc e))
 locked_rests w (action.Hand caller from to c a) e r =
-    let t = through Rests (λ f. tt) in
+    let t = through (λ o. Rests (acknowledged o)) (λ f. tt) in
     t (is_account caller) _ _ (λ _.
     t (is_account from) _ _ (λ _.
     t (is_account to) _ _ (λ _.
@@ -53,7 +53,7 @@ locked_rests w (action.Hand caller from to c a) e r =
     t (leb a (claim w.book from c)) _ _ (λ _.
     t (has_room (claim w.book to c + a)) _ _ (λ _. unmoved _ refl refl refl r)))))))))
 locked_rests w (action.Allow owner spender c a) e r =
-    let t = through Rests (λ f. tt) in
+    let t = through (λ o. Rests (acknowledged o)) (λ f. tt) in
     t (is_account owner) _ _ (λ _.
     t (is_account spender) _ _ (λ _.
     t (is_currency w.tokens.count c) _ _ (λ _.

@@ -8,7 +8,7 @@ use Rattle.std.proofs.lemmas.Bool.Decides.{nat_tests}
 use Rattle.book.specs.Cells.{no_pool}
 use Rattle.book.specs.New.{new_book}
 use Rattle.book.specs.Reads.{delta}
-use Rattle.amounts.specs.Rows.{at2, put2}
+use Rattle.book.specs.Rows.{at2, put2}
 use Rattle.totals.specs.Totals.{held, pools_in, claims_in, column, deltas_in, is_open}
 
 -- the signed sum of f over a list, from z on

@@ -1,5 +1,6 @@
 // What a book holds of a currency, all records and rows together, and how many debts are open.
 #![tactic(auto)]
+
 mod debts;
 mod sums;
 

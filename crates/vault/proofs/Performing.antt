@@ -59,7 +59,7 @@ session_rests phase.Open len e = refl
 session_rests (phase.Framed i) len e = refl
 
 -- the answer, and what is left, are those of the outcome
-abbrev pub Acted : Phase → List World → World → Outcome → Result Answer VaultFault → World → List World → Type 0
+abbrev pub Acted : Phase → List World → World → Outcome Answer → Result Answer VaultFault → World → List World → Type 0
 Acted p before w o r v after =
     (r ≡ (acted (record { phase = p; now = w; saved = before }) o).answer) × (◌≡◌ {A = State} (record { phase = p; now = v; saved = after }) (acted (record { phase = p; now = w; saved = before }) o).left)
 
@@ -82,7 +82,7 @@ module _ {T H : Type 0} where
     counts session x y w e = subst (Counted (is_step session x) a.held.book.steps) (sym e) (counted session (world tokens hooks a.held) x)
 
     -- in a session the marks fit after an action as before it
-    pub session_fit : (o : Outcome) (x : Action) (r : Result Answer VaultFault) → o ≡ act true (world tokens hooks a.held) x → is_step true x ≡ true → Meets tokens hooks o a b r → all_fit b b.len (b.len ∷ ms) ≡ true
+    pub session_fit : (o : Outcome Answer) (x : Action) (r : Result Answer VaultFault) → o ≡ act true (world tokens hooks a.held) x → is_step true x ≡ true → Meets tokens hooks o a b r → all_fit b b.len (b.len ∷ ms) ≡ true
     session_fit (refused f) x r e step m =
         let l = m.1.longer in
         let len : a.len ≡ b.len = omega (arith, l) in
@@ -100,18 +100,18 @@ module _ {T H : Type 0} where
         with_room b ms (omega (arith, long, now, one, longer)) (omega (arith, now, few)) (under b a.len b.len ms grown (same_fit tokens hooks a b a.len a.len ms s.kept (omega arith) (outer a a.len a.len ms fit)))
 
     -- the step count stays within its bound
-    few_steps : (o : Outcome) (session : Bool) (x : Action) (r : Result Answer VaultFault) → o ≡ act session (world tokens hooks a.held) x → Meets tokens hooks o a b r → b.held.book.steps ≤ 64
+    few_steps : (o : Outcome Answer) (session : Bool) (x : Action) (r : Result Answer VaultFault) → o ≡ act session (world tokens hooks a.held) x → Meets tokens hooks o a b r → b.held.book.steps ≤ 64
     few_steps (refused f) session x r e m = let now : b.held.book.steps ≡ a.held.book.steps = ap (λ v. v.book.steps) m.1.now in let few = (last_fits a ms fit).1 in omega (arith, now, few)
     few_steps (done y w) session x r e m = let now : b.held.book.steps ≡ w.book.steps = ap (λ v. v.book.steps) m.1.now in let few = (counts session x y w e).1 (last_fits a ms fit).1 in omega (arith, now, few)
 
     -- in a locked vault nothing is left to undo
-    pub locked_fit : (s : Store T H) (o : Outcome) (session : Bool) (x : Action) (r : Result Answer VaultFault) → o ≡ act session (world tokens hooks a.held) x → Meets tokens hooks o a b r → s.held ≡ b.held → s.len ≡ 0 → all_fit s s.len (s.len ∷ []) ≡ true
+    pub locked_fit : (s : Store T H) (o : Outcome Answer) (session : Bool) (x : Action) (r : Result Answer VaultFault) → o ≡ act session (world tokens hooks a.held) x → Meets tokens hooks o a b r → s.held ≡ b.held → s.len ≡ 0 → all_fit s s.len (s.len ∷ []) ≡ true
     locked_fit s o session x r e m held empty =
         let few = few_steps o session x r e m in
         let now : s.held.book.steps ≡ b.held.book.steps = ap (λ v. v.book.steps) held in
         with_room s [] (omega (arith, empty)) (omega (arith, now, few)) refl
 
     -- the answer and the state are those of the outcome
-    pub acted_state : (p : Phase) (o : Outcome) (r : Result Answer VaultFault) → Meets tokens hooks o a b r → Acted p (map (saved tokens hooks a) ms) (world tokens hooks a.held) o r (world tokens hooks b.held) (map (saved tokens hooks b) ms)
+    pub acted_state : (p : Phase) (o : Outcome Answer) (r : Result Answer VaultFault) → Meets tokens hooks o a b r → Acted p (map (saved tokens hooks a) ms) (world tokens hooks a.held) o r (world tokens hooks b.held) (map (saved tokens hooks b) ms)
     acted_state p (refused f) r m = let same = same_worlds tokens hooks a b a.len a.len ms m.1.kept (omega arith) (outer a a.len a.len ms fit) in (m.0, λ j. record { phase = p; now = m.1.now j; saved = same j })
     acted_state p (done y w) r m = let same = same_worlds tokens hooks a b a.len a.len ms m.1.kept (omega arith) (outer a a.len a.len ms fit) in (m.0, λ j. record { phase = p; now = m.1.now j; saved = same j })

@@ -126,7 +126,7 @@ failed s = record { phase = phase.Locked; now = opening s; saved = [] }
 abbrev pub finishing : State → State
 finishing s = record { phase = phase.Locked; now = finished s.now; saved = [] }
 
-abbrev pub acted : State → Outcome → Turn
+abbrev pub acted : State → Outcome Answer → Turn
 acted s (refused f) = record { answer = Err f; left = s }
 acted s (done said w) = record { answer = Ok said; left = record { phase = s.phase; now = w; saved = s.saved } }
 
