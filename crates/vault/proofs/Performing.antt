@@ -12,7 +12,7 @@ use Rattle.hooks.specs.Meaning.{Hooks}
 use Rattle.store.specs.declared.answer.Answer.{Answer}
 use Rattle.store.specs.declared.state.Store.{Store}
 use Rattle.store.specs.Outcome.{Outcome, refused, done, Meets}
-use Rattle.store.specs.Room.{steps_at}
+use Rattle.store.specs.Room.{Grows, steps_at}
 use Rattle.store.specs.Saved.{world, saved}
 use Rattle.store.specs.World.{World}
 use Rattle.store.proofs.Rooms.{steps_now}
@@ -65,16 +65,16 @@ Acted p before w o r v after =
 
 module _ {T H : Type 0} where
   -- the room after the last entry
-  last_fits : (s : Store T H) (ms : List ℕ) → all_fit s s.len (s.len ∷ ms) ≡ true → (s.len ≤ 6 * s.held.book.steps) × (s.held.book.steps ≤ 64)
+  last_fits : (s : Store T H) (ms : List ℕ) → all_fit s s.len (s.len ∷ ms) ≡ true → (s.len ≤ 5 * s.held.book.steps) × (s.held.book.steps ≤ 64)
   last_fits s ms e =
-      let here = and_parts (leb s.len (6 * steps_at s s.len)) _ (and_parts (fits s s.len) _ (and_parts (leb s.len s.len) _ e).1).0 in
-      (subst (λ n. s.len ≤ 6 * n) (steps_now s) (leb-true _ _ here.0), subst (λ n. n ≤ 64) (steps_now s) (leb-true _ _ here.1))
+      let here = and_parts (leb s.len (5 * steps_at s s.len)) _ (and_parts (fits s s.len) _ (and_parts (leb s.len s.len) _ e).1).0 in
+      (subst (λ n. s.len ≤ 5 * n) (steps_now s) (leb-true _ _ here.0), subst (λ n. n ≤ 64) (steps_now s) (leb-true _ _ here.1))
 
   -- the marks fit, if there is room after the last entry
-  with_room : (s : Store T H) (ms : List ℕ) → s.len ≤ 6 * s.held.book.steps → s.held.book.steps ≤ 64 → all_fit s s.len ms ≡ true → all_fit s s.len (s.len ∷ ms) ≡ true
+  with_room : (s : Store T H) (ms : List ℕ) → s.len ≤ 5 * s.held.book.steps → s.held.book.steps ≤ 64 → all_fit s s.len ms ≡ true → all_fit s s.len (s.len ∷ ms) ≡ true
   with_room s ms long few e =
       and_from _ _ (le-leb s.len s.len (omega arith))
-      (and_from (fits s s.len) _ (and_from _ _ (le-leb _ _ (subst (λ n. s.len ≤ 6 * n) (sym (steps_now s)) long)) (le-leb _ _ (subst (λ n. n ≤ 64) (sym (steps_now s)) few))) e)
+      (and_from (fits s s.len) _ (and_from _ _ (le-leb _ _ (subst (λ n. s.len ≤ 5 * n) (sym (steps_now s)) long)) (le-leb _ _ (subst (λ n. n ≤ 64) (sym (steps_now s)) few))) e)
 
   module _ (tokens : T → Tokens) (hooks : H → Hooks) (a b : Store T H) (ms : List ℕ) (fit : all_fit a a.len (a.len ∷ ms) ≡ true) where
     -- what an accepted action does to the step count
@@ -82,12 +82,12 @@ module _ {T H : Type 0} where
     counts session x y w e = subst (Counted (is_step session x) a.held.book.steps) (sym e) (counted session (world tokens hooks a.held) x)
 
     -- in a session the marks fit after an action as before it
-    pub session_fit : (o : Outcome Answer) (x : Action) (r : Result Answer VaultFault) → o ≡ act true (world tokens hooks a.held) x → is_step true x ≡ true → Meets tokens hooks o a b r → all_fit b b.len (b.len ∷ ms) ≡ true
-    session_fit (refused f) x r e step m =
+    pub session_fit : (o : Outcome Answer) (x : Action) (r : Result Answer VaultFault) → o ≡ act true (world tokens hooks a.held) x → is_step true x ≡ true → Meets tokens hooks o a b r → Grows a.len b.len → all_fit b b.len (b.len ∷ ms) ≡ true
+    session_fit (refused f) x r e step m grows =
         let l = m.1.longer in
         let len : a.len ≡ b.len = omega (arith, l) in
         subst (λ n. all_fit b n (n ∷ ms) ≡ true) len (same_fit tokens hooks a b a.len a.len (a.len ∷ ms) m.1.kept (omega arith) fit)
-    session_fit (done y w) x r e step m =
+    session_fit (done y w) x r e step m grows =
         let s = m.1 in
         let room = last_fits a ms fit in
         let long = room.0 in
@@ -95,8 +95,8 @@ module _ {T H : Type 0} where
         let now : b.held.book.steps ≡ w.book.steps = ap (λ v. v.book.steps) s.now in
         let one : w.book.steps ≡ a.held.book.steps + 1 = count.0 ∙ ap (λ t. steps_after t a.held.book.steps) step in
         let few = count.1 room.1 in
-        let grown = s.grown in
-        let longer = s.longer in
+        let grown = grows.0 in
+        let longer = grows.1 in
         with_room b ms (omega (arith, long, now, one, longer)) (omega (arith, now, few)) (under b a.len b.len ms grown (same_fit tokens hooks a b a.len a.len ms s.kept (omega arith) (outer a a.len a.len ms fit)))
 
     -- the step count stays within its bound

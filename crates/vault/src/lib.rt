@@ -1,5 +1,6 @@
 // The vault over any token and hook bank: sessions, frames, slips and all calls.
 #![tactic(auto)]
+
 mod call;
 mod calls;
 mod inside;

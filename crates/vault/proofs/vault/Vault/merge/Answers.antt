@@ -15,16 +15,13 @@ invariant_of-self g c =
     let to = c.outside-self.ensures ∙ ap shallower frame.1 in
     let fit : all_fit s s.len (s.len ∷ ends (shallower (phase.Framed frame.0)) v.marks) ≡ true =
     subst (λ ms. all_fit s s.len (s.len ∷ ms) ≡ true) (sym (shallower_ends frame.0 v.marks))
-    (without s s.len s.len _ _ (subst (λ p. all_fit s s.len (s.len ∷ ends p v.marks) ≡ true) frame.1 v.fit)) in (
-      v.sized,
-      (
-        subst (λ p. nested p ≡ true) (sym to) (shallower_nested frame.0 (subst (λ p. nested p ≡ true) frame.1 v.nested)),
-        (
-          subst (λ p. at_rest p s.len ≡ true) (sym to) (shallower_rests frame.0 s.len),
-          (subst (λ p. all_fit s s.len (s.len ∷ ends p v.marks) ≡ true) (sym to) fit, tt),
-        ),
-      ),
-    )
+    (without s s.len s.len _ _ (subst (λ p. all_fit s s.len (s.len ∷ ends p v.marks) ≡ true) frame.1 v.fit)) in
+    record {
+      sized = v.sized;
+      nested = subst (λ p. nested p ≡ true) (sym to) (shallower_nested frame.0 (subst (λ p. nested p ≡ true) frame.1 v.nested));
+      rests = subst (λ p. at_rest p s.len ≡ true) (sym to) (shallower_rests frame.0 s.len);
+      fit = subst (λ p. all_fit s s.len (s.len ∷ ends p v.marks) ≡ true) (sym to) fit;
+    }
 
 pub returns : goal.returns
 returns g c =

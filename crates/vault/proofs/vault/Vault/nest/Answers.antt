@@ -20,7 +20,7 @@ invariant_of-self g c =
     let few = fewer v.phase c.requires in
     let at = c.frames-next.ensures in
     let e = marked v.phase v.marks c.frames-next.result c.len.result s.len at c.len.ensures (deeper_ends v.phase v.marks s.len c.requires v.sized) in
-    (length-set v.marks _ _ ∙ v.sized, (lt-ltb _ _ (omega (arith, at, few)), (refl, (subst (λ ms. all_fit s s.len (s.len ∷ ms) ≡ true) (sym e) (twice s s.len _ v.fit), tt))))
+    record { sized = length-set v.marks _ _ ∙ v.sized; nested = lt-ltb _ _ (omega (arith, at, few)); rests = refl; fit = subst (λ ms. all_fit s s.len (s.len ∷ ms) ≡ true) (sym e) (twice s s.len _ v.fit) }
 
 pub returns : goal.returns
 returns g c =
