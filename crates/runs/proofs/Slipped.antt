@@ -4,6 +4,7 @@ use Rattle.std.proofs.lemmas.Bool.{cond_both, eqb-true, eqb-false, eq-eqb}
 use Rattle.actions.specs.declared.action.Action.{Action}
 use Rattle.actions.specs.Acts.{act}
 use Rattle.faults.specs.declared.cause.Cause.{Cause}
+use Rattle.store.specs.declared.answer.Answer.{Answer}
 use Rattle.store.specs.Outcome.{Outcome, refused, done}
 use Rattle.vault.specs.declared.call.Call.TheVariants as call
 use Rattle.vault.specs.declared.phase.Phase.{Phase}
@@ -25,7 +26,7 @@ one_less (phase.Framed i) s f g e less =
     (λ z. let zero = eqb-true i 0 z in eq-eqb (count g) 0 (omega (arith, n, less, zero)))
     (λ z. let more = eqb-false i 0 z in eq-eqb (count g) (suc (i - 1)) (omega (arith, n, less, more)))
 
-acted_phase : (s : State) (o : Outcome) → (acted s o).left.phase ≡ s.phase
+acted_phase : (s : State) (o : Outcome Answer) → (acted s o).left.phase ≡ s.phase
 acted_phase s (refused f) = refl
 acted_phase s (done said w) = refl
 

@@ -97,7 +97,7 @@ module _ (start : World) where
         onto (finished now) stands [] locked tt (record { shaped = record { claims = s.shaped.claims; deltas = s.shaped.deltas }; same_count = s.same_count; same_pools = s.same_pools; even = s.even }) tt (closed_rests now none) g.locked refl
 
     -- an action, by what it comes to
-    acting : (begun : List Begin) (a : Action) {o : Outcome} → Good (so_far begun) → Keeps start (strays start stands) a o → ((said : Answer) (w : World) → o ≡ done said w → Rested w begun) → Goes (so_far begun) (call.Act a) (acted (state_of (so_far begun)) o)
+    acting : (begun : List Begin) (a : Action) {o : Outcome Answer} → Good (so_far begun) → Keeps start (strays start stands) a o → ((said : Answer) (w : World) → o ≡ done said w → Rested w begun) → Goes (so_far begun) (call.Act a) (acted (state_of (so_far begun)) o)
     acting begun a g (nothing f) rests = refusal begun g
     acting begun a g (sound said w s) rests = onto w _ begun locked tt s g.begun (rests said w refl) g.locked refl
 

@@ -1,5 +1,6 @@
 // Runs of calls on a new vault, and the law that holds of every one.
 #![tactic(auto)]
+
 mod ended;
 mod ends;
 mod line;
