@@ -1,0 +1,38 @@
+// Why the program stops before its end: it cannot print, or a bank was not made.
+ghost use Rattle.std.specs.Prelude.{◌≡◌};
+ghost use Rattle.sessions.specs.declared.stop.Stop.TheVariants.{Print, Ledger, Hooks};
+
+use hooks::HookSetupFault;
+use std::io;
+use tokens::OpeningFault;
+
+#[derive(Debug, Drop)]
+pub enum Stop {
+    Print(io::Error),
+    Ledger(OpeningFault),
+    Hooks(HookSetupFault),
+}
+
+impl From<io::Error> for Stop {
+    ghost from_gives = { λ e r. r ≡ Print e };
+
+    fn from(e: io::Error) -> Stop {
+        Stop::Print(e)
+    }
+}
+
+impl From<OpeningFault> for Stop {
+    ghost from_gives = { λ e r. r ≡ Ledger e };
+
+    fn from(e: OpeningFault) -> Stop {
+        Stop::Ledger(e)
+    }
+}
+
+impl From<HookSetupFault> for Stop {
+    ghost from_gives = { λ e r. r ≡ Hooks e };
+
+    fn from(e: HookSetupFault) -> Stop {
+        Stop::Hooks(e)
+    }
+}
