@@ -1,5 +1,5 @@
 -- What the calls on claims come to, on what holds. Assumes nothing.
-use Rattle.std.specs.Prelude.{ℕ, ◌+◌, ◌-◌, Bool, false, cond, not, ◌||◌, ℤ, pos, ◌+ℤ◌, ◌-ℤ◌, ◌==◌, nat_le}
+use Rattle.std.specs.Prelude.{ℕ, ◌+◌, ◌-◌, Bool, false, cond, not, ◌||◌, pos, ◌+ℤ◌, ◌-ℤ◌, ◌==◌, nat_le}
 use Rattle.amounts.specs.Rounding.{most}
 use Rattle.book.specs.declared.records.Book.{Book}
 use Rattle.book.specs.Cells.{with_claim, with_allowance, with_delta, with_steps}
