@@ -1,7 +1,7 @@
 -- A table of figures is right where one test, computed over all of it, says so. Assumes nothing.
 use Rattle.std.proofs.Common.{◌≡◌, ℕ, Bool, true, false, ◌&&◌, eqb, List, [], ◌∷◌, length, refl, arith}
 use Rattle.std.proofs.lemmas.Bool.{and_parts, eqb-true}
-use Rattle.std.specs.List.{AllByRecursion as All}
+use Rattle.std.specs.List.{AllByRecursion}
 use Rattle.figures.specs.declared.question.Answer.{Answer}
 use Rattle.figures.specs.declared.question.Answer.TheVariants.{Refused, One, Two}
 use Rattle.figures.specs.declared.table.Figure.{Figure}
@@ -38,7 +38,7 @@ abbrev pub right : List Figure → Bool
 right [] = true
 right (f ∷ fs) = same (answer_of examples f.question) f.answer && right fs
 
-all_right : (fs : List Figure) → right fs ≡ true → All Holds fs
+all_right : (fs : List Figure) → right fs ≡ true → AllByRecursion Holds fs
 all_right [] e = tt
 all_right (f ∷ fs) e =
     let p = and_parts (same (answer_of examples f.question) f.answer) (right fs) e in

@@ -1,6 +1,6 @@
 -- When a figure is right. Assumes nothing.
 use Rattle.std.specs.Prelude.{◌≡◌, List, length}
-use Rattle.std.specs.List.{AllByRecursion as All}
+use Rattle.std.specs.List.{AllByRecursion}
 use Rattle.curves.specs.Beside.{beside}
 use Rattle.curves.specs.Fee.{fee}
 use Rattle.curves.specs.Meaning.{Curves}
@@ -18,5 +18,5 @@ Holds f = answer_of examples f.question ≡ f.answer
 
 -- fourteen figures, each of them right
 pub record AllHold (figures : List Figure) : Type 0 where
-  pub each : All Holds figures
+  pub each : AllByRecursion Holds figures
   pub count : length figures ≡ 14

@@ -1,6 +1,6 @@
 -- The law holds at every moment of every history of a new vault. Assumes nothing.
 use Rattle.std.proofs.Common.{◌≡◌, ◌≤◌, List, [], ◌∷◌, sym, refl, ◌∙◌, subst, arith}
-use Rattle.std.specs.List.{AllByRecursion as All}
+use Rattle.std.specs.List.{AllByRecursion}
 use Rattle.std.proofs.lemmas.Int.{ints}
 use Rattle.actions.proofs.Balances.{new_shaped}
 use Rattle.hooks.specs.Meaning.{Hooks}
@@ -15,7 +15,7 @@ use Rattle.runs.proofs.Steps.{state_of, Rested, Good, good_moment, step}
 
 module _ (start : World) where
   -- the pools are as they were at every locked moment
-  no_poorer : (w : World) (locked : List World) → w.book.pools ≡ start.book.pools → All (λ v. v.book.pools ≡ start.book.pools) locked → All (NoPoorer w) locked
+  no_poorer : (w : World) (locked : List World) → w.book.pools ≡ start.book.pools → AllByRecursion (λ v. v.book.pools ≡ start.book.pools) locked → AllByRecursion (NoPoorer w) locked
   no_poorer w [] e all = tt
   no_poorer w (v ∷ vs) e all = (e ∙ sym all.0, no_poorer w vs e all.1)
 

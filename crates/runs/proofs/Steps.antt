@@ -1,6 +1,6 @@
 -- What the law needs at a moment, and that every call keeps it. Assumes nothing.
 use Rattle.std.proofs.Common.{◌≡◌, suc, ◌-◌, ◌≤◌, eqb, leb, List, [], ◌∷◌, map, length, Ok, Err, Result, refl, ap, ◌∙◌, arith}
-use Rattle.std.specs.List.{AllByRecursion as All}
+use Rattle.std.specs.List.{AllByRecursion}
 use Rattle.std.proofs.lemmas.Bool.{cond_both, cond-false, ne_eqb, eqb-true}
 use Rattle.actions.specs.declared.action.Action.{Action}
 use Rattle.actions.specs.Acts.{act}
@@ -43,11 +43,11 @@ Rested w begun = AtRest (last_of w (map (λ b. b.held) begun))
 module _ (start : World) where
   -- the pools of every locked moment are those of the start
   abbrev Untouched : List World → Type 0
-  Untouched locked = All (λ w. w.book.pools ≡ start.book.pools) locked
+  Untouched locked = AllByRecursion (λ w. w.book.pools ≡ start.book.pools) locked
 
   -- all was sound whenever a session or a frame began
   abbrev Begun : List Begin → Type 0
-  Begun begun = All (λ b. Sound start b.held (strays start b.stood)) begun
+  Begun begun = AllByRecursion (λ b. Sound start b.held (strays start b.stood)) begun
 
   -- what is kept from moment to moment
   pub record Good (t : Told) : Type 0 where

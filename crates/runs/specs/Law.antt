@@ -1,7 +1,7 @@
 -- The law on runs: what holds at every moment of every history. It is told from calls, answers and what held, and from nothing else.
 -- Assumes nothing.
 use Rattle.std.specs.Prelude.{◌≡◌, ℕ, false, cond, List, [], ◌∷◌, ℤ, pos, ◌+ℤ◌, Ok, Err, Result, ◌==◌}
-use Rattle.std.specs.List.{AllByRecursion as All}
+use Rattle.std.specs.List.{AllByRecursion}
 use Rattle.actions.specs.Balance.{Equation, stray_of}
 use Rattle.book.specs.Reads.{delta}
 use Rattle.faults.specs.declared.cause.VaultFault.{VaultFault}
@@ -151,7 +151,7 @@ NoPoorer later earlier = later.book.pools ≡ earlier.book.pools
 pub record Holds (start : World) (t : Told) : Type 0 where
   pub even : (c : ℕ) → Equation t.now c (strays start t.stands c)
   pub at_rest : t.begun ≡ [] → AtRest t.now
-  pub no_poorer : t.begun ≡ [] → All (NoPoorer t.now) t.locked
+  pub no_poorer : t.begun ≡ [] → AllByRecursion (NoPoorer t.now) t.locked
 
 -- at the first moment, at every event, and at every moment after it
 abbrev pub Law : World → Told → List Event → Type 0
