@@ -1,22 +1,21 @@
 -- What an action changes in one currency, part by part, and when the balance equation is kept. Assumes nothing.
-use Rattle.std.proofs.Common.{◌≡◌, ℕ, zero, suc, ◌+◌, ◌-◌, ◌<◌, ◌≤◌, Bool, true, false, cond, ◌&&◌, eqb, leb, List, [], ◌∷◌, length, get_or, set, ℤ, pos, ◌+ℤ◌, ◌-ℤ◌, neg_ℤ, sum_by, sym, refl, ap, ◌∙◌, subst, arith}
+use Rattle.std.proofs.Common.{◌≡◌, ℕ, zero, suc, ◌+◌, ◌-◌, ◌<◌, ◌≤◌, Bool, true, cond, ◌&&◌, eqb, leb, List, [], ◌∷◌, length, get_or, set, ℤ, pos, ◌+ℤ◌, ◌-ℤ◌, neg_ℤ, sum_by, sym, refl, ap, ◌∙◌, subst, arith}
 use Rattle.std.proofs.lemmas.List.{length-set, get_or-set_other}
 use Rattle.std.proofs.lemmas.Int.{ints}
-use Rattle.std.proofs.lemmas.Bool.{leb-true}
 use Rattle.std.proofs.lemmas.Bool.Decides.{nat_tests}
 use Rattle.actions.specs.declared.action.Action.{Action}
 use Rattle.actions.specs.Balance.{stray_of, Sized, Sound, Keeps}
 use Rattle.actions.specs.Balance.Keeps.{sound}
 use Rattle.book.specs.declared.records.Book.{Book}
 use Rattle.book.specs.Reads.{delta, claim}
-use Rattle.book.specs.Rows.{at2, put2}
+use Rattle.amounts.specs.Rows.{at2, put2}
 use Rattle.checks.specs.Tests.{is_account, is_currency, are_apart}
 use Rattle.store.specs.declared.answer.Answer.{Answer}
 use Rattle.store.specs.Outcome.{done}
 use Rattle.store.specs.World.{World, with_book}
 use Rattle.tokens.specs.Meaning.{Tokens, moved}
 use Rattle.totals.specs.Totals.{held, claims_in, column, deltas_in}
-use Rattle.totals.proofs.Columns.{by_column, claims_put, deltas_put}
+use Rattle.totals.proofs.Columns.{claims_put, deltas_put}
 
 -- a changed cell leaves every row as long as it was
 same_rows : {A : Type 0} (rows : List (List A)) (i j : ℕ) (v : A) (k : ℕ) → length (get_or (put2 rows i j v) k []) ≡ length (get_or rows k [])
@@ -35,25 +34,17 @@ only d z c = cond (eqb d c) z (pos 0)
 
 -- no change
 pub none : (d c : ℕ) → pos 0 ≡ only d (pos 0) c
-none d c = elim (eqb d c) as (λ t. pos 0 ≡ cond t (pos 0) (pos 0)) [ true ↦ refl | false ↦ refl ]
+none d c = grind (arith, ints, nat_tests)
 
 pub same : (d c : ℕ) (z : ℤ) → z ≡ z +ℤ only d (pos 0) c
 same d c z = omega (arith, ints, none d c)
 
 pub nested : (s t : Bool) (z : ℤ) → cond (s && t) z (pos 0) ≡ cond s (cond t z (pos 0)) (pos 0)
-nested true t z = refl
-nested false t z = refl
-
--- a change, and one that undoes it
-even_out : (d c : ℕ) (p q r y z : ℤ) → q ≡ p +ℤ only d y c → r ≡ q +ℤ only d z c → y +ℤ z ≡ pos 0 → r ≡ p +ℤ only d (pos 0) c
-even_out d c p q r y z e f out = elim (eqb d c) as (λ t. q ≡ p +ℤ cond t y (pos 0) → r ≡ q +ℤ cond t z (pos 0) → r ≡ p +ℤ cond t (pos 0) (pos 0)) [ true ↦ λ e f. omega (arith, ints) | false ↦ λ e f. omega (arith, ints) ] e f
+nested s t z = grind (arith, ints, nat_tests)
 
 -- what a move does to the vault's own balances
 pub vault_moved : (t : Tokens) (d from to a : ℕ) → a ≤ t.balance d from → (c : ℕ) → pos ((moved t d from to a).balance c 0) ≡ pos (t.balance c 0) +ℤ only d (cond (eqb to 0) (pos (t.arrives d a)) (cond (eqb from 0) (neg_ℤ (pos a)) (pos 0))) c
-vault_moved t d from to a holds c =
-    by_column (λ c b. pos ((moved t d from to a).balance c 0) ≡ pos (t.balance c 0) +ℤ cond b (cond (eqb to 0) (pos (t.arrives d a)) (cond (eqb from 0) (neg_ℤ (pos a)) (pos 0))) (pos 0)) d c
-    (grind (arith, ints, nat_tests))
-    (λ ne. grind (arith, ints, nat_tests))
+vault_moved t d from to a holds c = grind (arith, ints, nat_tests)
 
 account : (n : ℕ) → is_account n ≡ true → n < 16
 account n e = grind (arith, nat_tests)
@@ -76,7 +67,7 @@ module _ (w : World) (g : Grounds w) where
         same_count = count ∙ s.same_count;
         same_pools = pools ∙ s.same_pools;
         even = λ c.
-            let all : only d b c ≡ only d k c +ℤ (only d m c +ℤ only d z c) = elim (eqb d c) as (λ t. cond t b (pos 0) ≡ cond t k (pos 0) +ℤ (cond t m (pos 0) +ℤ cond t z (pos 0))) [ true ↦ out | false ↦ refl ] in
+            let all : only d b c ≡ only d k c +ℤ (only d m c +ℤ only d z c) = grind (arith, ints, nat_tests) in
             omega (arith, ints, all, balance c, claims c, deltas c, stray c, s.even c, ap (λ p. sum_by (λ q. held q c) p.rows) pools);
       })
 
@@ -112,4 +103,6 @@ module _ (w : World) (g : Grounds w) where
       let more : ℕ = claim w.book to d + a in
       let once : List (List ℕ) = put2 rows from d less in
       let stays : at2 once to d 0 ≡ claim w.book to d = ap (λ r. get_or r d 0) (get_or-set_other rows from to _ [] (λ e. grind (arith, nat_tests))) in
-      even_out d c (pos (claims_in w.book c)) _ _ (pos less -ℤ pos (claim w.book from d)) (pos more -ℤ pos (at2 once to d 0)) (claim_changed from d less i j c) (claim_put once (put_sized rows from d less claim_rows) to d more k j c) (omega (arith, ints, stays, leb-true a _ holds))
+      let first = claim_changed from d less i j c in
+      let second = claim_put once (put_sized rows from d less claim_rows) to d more k j c in
+      grind (arith, ints, nat_tests)

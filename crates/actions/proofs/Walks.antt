@@ -1,5 +1,5 @@
 -- Each action test by test: where all pass, the step is counted and the balance equation kept. Assumes nothing.
-use Rattle.std.proofs.Common.{◌≡◌, ℕ, ◌+◌, ◌-◌, ◌≤◌, Bool, true, not, ◌||◌, eqb, leb, pos, ◌+ℤ◌, ◌-ℤ◌, refl, arith}
+use Rattle.std.proofs.Common.{◌≡◌, ℕ, ◌+◌, ◌≤◌, Bool, true, not, ◌||◌, eqb, leb, pos, ◌+ℤ◌, ◌-ℤ◌, refl, arith}
 use Rattle.std.proofs.lemmas.Int.{ints}
 use Rattle.std.proofs.lemmas.Bool.{leb-true}
 use Rattle.std.proofs.lemmas.Bool.Decides.{nat_tests}
@@ -14,7 +14,7 @@ use Rattle.actions.proofs.Through.{through}
 use Rattle.book.specs.Reads.{delta, claim}
 use Rattle.checks.specs.Tests.{is_account, is_account_or_vault, is_currency, is_amount, is_amount_or_none, is_flag, are_apart, has_step, steps_after, has_room, in_range, is_delta}
 use Rattle.claims.specs.Claims.{has_right}
-use Rattle.payments.specs.Payments.{is_marked, vault_balance}
+use Rattle.payments.specs.Payments.{is_marked, gained, vault_balance}
 use Rattle.store.specs.declared.answer.Answer.{Answer}
 use Rattle.store.specs.Outcome.{Outcome}
 use Rattle.store.specs.World.{World}
@@ -38,7 +38,7 @@ walked session w (action.Settle who c) =
     t (is_currency w.tokens.count c) _ _ (λ q.
     t (has_step w.book.steps) _ _ (λ room.
     t (is_marked w.book.mark c (vault_balance w c)) _ _ (λ _.
-    t (in_range (delta w.book who c +ℤ pos (vault_balance w c - w.book.mark.balance))) _ _ (λ _.
+    t (in_range (delta w.book who c +ℤ pos (gained w.book.mark (vault_balance w c)))) _ _ (λ _.
     ((refl, within true _ room), λ g. fair w g _ _ _ c _ _ _ _ refl refl (claim_rows w g) (put_sized _ who c _ (delta_rows w g)) (λ e. same c e _) (λ e. same c e _) (delta_changed w g who c _ p q) (λ _. refl) (omega (arith, ints))))))))
 walked session w (action.Take who c to a) =
     let t = through (Walked session w (action.Take who c to a)) (λ f. (tt, λ g. nothing f)) in

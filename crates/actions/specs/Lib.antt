@@ -1,3 +1,4 @@
 pub mod Acts
 pub mod Counted
 pub mod Balance
+pub mod Texts

@@ -2,7 +2,7 @@
 ghost use Rattle.std.specs.Prelude.{◌≡◌, ◌≤◌};
 ghost use Rattle.actions.specs.Acts.{act as act_outcome, acknowledgement};
 ghost use Rattle.store.specs.Outcome.{Meets};
-ghost use Rattle.store.specs.Room.{Grows};
+ghost use Rattle.store.specs.Room.{HasRoom};
 ghost use Rattle.store.specs.Saved.{world};
 
 use crate::action::Action;
@@ -18,19 +18,18 @@ use tokens::TokenBank;
 fn acknowledged(said: Result<(), VaultFault>) -> Result<Answer, VaultFault>
     ensures { result ≡ acknowledgement said }
 {
-    said?;
-    Ok(Answer::Done)
+    said.map(|()| Answer::Done)
 }
 
-// In a session `pay` and `hand` are steps as well.
+// In a session `pay` and `hand` are steps as well. Actions are values, since a run is any list of them.
+#[tactic(auto, using(crate::proofs::Acknowledges::acknowledges))]
 pub fn act<T: TokenBank, H: HookBank>(
     store: &mut Store<T, H>,
     session: bool,
     action: Action,
 ) -> Result<Answer, VaultFault>
-    requires { store.old.len ≤ 378 }
-    ensures comes { Meets T.TokenBank.meaning H.HookBank.meaning (act_outcome session (world T.TokenBank.meaning H.HookBank.meaning store.old.held) action) store.old store.new result }
-    ensures grows { Grows store.old.len store.new.len }
+    requires { HasRoom store.old }
+    ensures { Meets T.TokenBank.meaning H.HookBank.meaning (act_outcome session (world T.TokenBank.meaning H.HookBank.meaning store.old.held) action) store.old store.new result }
 {
     match action {
         Action::Sync { c } => sync(store, c),

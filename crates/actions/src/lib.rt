@@ -3,6 +3,7 @@
 
 mod action;
 mod dispatch;
+mod print;
 
 pub use action::Action;
 pub use dispatch::act;

@@ -6,7 +6,7 @@ use Rattle.amounts.specs.Rounding.{up, down}
 abbrev pub next_digit : ℕ → ℕ → ℕ
 next_digit r n = cond (nat_le ((2 * r + 1) * (2 * r + 1)) n) (2 * r + 1) (2 * r)
 
--- the whole part of the square root of an n below 4 ^ k
+-- the whole part of the square root of an n below 4 ^ k; std has one for its floats, and here a reader sees how it is found
 unfoldable pub root_below : ℕ → ℕ → ℕ
 root_below zero n = 0
 root_below (suc k) n = next_digit (root_below k (n / 4)) n

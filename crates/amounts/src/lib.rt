@@ -1,11 +1,13 @@
 // The numbers that every layer shares: the largest amount, rates, and what deposits and withdrawals come to.
 #![tactic(auto)]
 
+mod beside;
 mod pair;
 mod rate;
 mod rates;
 mod shares;
 
+pub use beside::Beside;
 pub use pair::{Place, pair_count, place_of};
 pub use rate::Rate;
 pub use rates::RateFault;

@@ -7,30 +7,24 @@ ghost use Rattle.amounts.specs.Pair.{both, place};
 pub enum Place {
     First(u32),
     Second(u32),
-    Nowhere,
 }
 
 // The sum of both counts, cut at the bound.
 pub fn pair_count(first: u32, second: u32, bound: u32) -> u32
     ensures { result ≡ both bound first second }
 {
-    let sum = first as u64 + second as u64;
-    if sum <= bound as u64 {
-        sum as u32
-    } else {
-        bound
-    }
+    first.saturating_add(second).min(bound)
 }
 
 // Numbers below the first count are the first bank's, and the others below the bound the second's, less that count.
-pub fn place_of(number: u32, first: u32, bound: u32) -> Place
+pub fn place_of(number: u32, first: u32, bound: u32) -> Option<Place>
     ensures { result ≡ place bound first number }
 {
     if number >= bound {
-        Place::Nowhere
+        None
     } else if number < first {
-        Place::First(number)
+        Some(Place::First(number))
     } else {
-        Place::Second(number - first)
+        Some(Place::Second(number - first))
     }
 }

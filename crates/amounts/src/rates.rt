@@ -4,7 +4,7 @@ ghost use Rattle.amounts.specs.Rounding.{down, part, left, grossed};
 
 use crate::rate::Rate;
 
-// A rate is at most a thousand ten-thousandths.
+// A rate is at most a thousand ten-thousandths. One case, and no Option: what is made with a rate passes it on as a fault.
 #[derive(Clone, Copy, Debug)]
 pub enum RateFault {
     AboveThousand,

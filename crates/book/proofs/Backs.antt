@@ -1,17 +1,12 @@
 -- A cell written twice, the second time with what stood there, leaves the book as it was. Assumes nothing.
-use mathlib.Core.Path.{◌≡◌, refl, ap, ◌∙◌}
-use mathlib.Core.Bool.{false}
-use mathlib.Core.List.{List, [], ◌∷◌}
-use Prim.Native.Nat.{ℕ, zero, suc}
-use lib.IntN.{pos}
-use lib.ListN.{set, get_or}
-use lib.Seq.{set-set, set-get_or}
+use Rattle.std.proofs.Common.{◌≡◌, ℕ, zero, suc, false, None, List, [], ◌∷◌, get_or, set, pos, refl, ap, ◌∙◌}
+use Rattle.std.proofs.lemmas.List.{set-set, set-get_or}
 use Rattle.book.specs.declared.cell.Cell.{Cell}
 use Rattle.book.specs.declared.cell.Cell.TheVariants as cell
 use Rattle.book.specs.declared.records.Allowed.{Allowed}
 use Rattle.book.specs.declared.records.Book.{Book}
-use Rattle.book.specs.Cells.{written, former, no_pool, allowed, allow}
-use Rattle.book.specs.Rows.{at2, put2}
+use Rattle.book.specs.Cells.{written, former, allowed, allow}
+use Rattle.amounts.specs.Rows.{at2, put2}
 
 back1 : {A : Type 0} (row : List A) (i : ℕ) (v d : A) → set (set row i v) i (get_or row i d) ≡ row
 back1 row i v d = set-set row i v (get_or row i d) ∙ set-get_or row i d
@@ -27,11 +22,11 @@ allow_back (r ∷ owners) zero j k v = ap (λ q. record { rows = q } ∷ owners)
 allow_back (r ∷ owners) (suc i) j k v = ap (λ q. r ∷ q) (allow_back owners i j k v)
 
 pub back : (b : Book) (c : Cell) → written (written b c) (former b c) ≡ b
-back b (cell.Pool p to) = ap (λ rows. record { pools = record { rows = rows; count = b.pools.count }; shares = b.shares; claims = b.claims; allowances = b.allowances; operators = b.operators; deltas = b.deltas; mark = b.mark; steps = b.steps }) (back1 b.pools.rows p.number to no_pool)
-back b (cell.Share p who to) = ap (λ rows. record { pools = b.pools; shares = rows; claims = b.claims; allowances = b.allowances; operators = b.operators; deltas = b.deltas; mark = b.mark; steps = b.steps }) (back2 b.shares p.number who.number to 0)
-back b (cell.Claim who c to) = ap (λ rows. record { pools = b.pools; shares = b.shares; claims = rows; allowances = b.allowances; operators = b.operators; deltas = b.deltas; mark = b.mark; steps = b.steps }) (back2 b.claims who.number c.number to 0)
-back b (cell.Allowance owner spender c to) = ap (λ rows. record { pools = b.pools; shares = b.shares; claims = b.claims; allowances = rows; operators = b.operators; deltas = b.deltas; mark = b.mark; steps = b.steps }) (allow_back b.allowances owner.number spender.number c.number to)
-back b (cell.Operator owner spender to) = ap (λ rows. record { pools = b.pools; shares = b.shares; claims = b.claims; allowances = b.allowances; operators = rows; deltas = b.deltas; mark = b.mark; steps = b.steps }) (back2 b.operators owner.number spender.number to false)
-back b (cell.Delta who c to) = ap (λ rows. record { pools = b.pools; shares = b.shares; claims = b.claims; allowances = b.allowances; operators = b.operators; deltas = rows; mark = b.mark; steps = b.steps }) (back2 b.deltas who.number c.number to (pos 0))
+back b (cell.Pool p to) = ap (λ rows. record b { pools = record { rows = rows } }) (back1 b.pools.rows p.number to None)
+back b (cell.Share p who to) = ap (λ rows. record b { shares = rows }) (back2 b.shares p.number who.number to 0)
+back b (cell.Claim who c to) = ap (λ rows. record b { claims = rows }) (back2 b.claims who.number c.number to 0)
+back b (cell.Allowance owner spender c to) = ap (λ rows. record b { allowances = rows }) (allow_back b.allowances owner.number spender.number c.number to)
+back b (cell.Operator owner spender to) = ap (λ rows. record b { operators = rows }) (back2 b.operators owner.number spender.number to false)
+back b (cell.Delta who c to) = ap (λ rows. record b { deltas = rows }) (back2 b.deltas who.number c.number to (pos 0))
 back b (cell.Mark to) = refl
 back b (cell.Steps to) = refl

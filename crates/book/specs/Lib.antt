@@ -1,4 +1,3 @@
-pub mod Rows
 pub mod Cells
 pub mod Reads
 pub mod New

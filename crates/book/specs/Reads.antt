@@ -2,7 +2,7 @@
 use Rattle.std.specs.Prelude.{ℕ, ℤ, pos}
 use Rattle.book.specs.declared.records.Book.{Book}
 use Rattle.book.specs.Cells.{allowed}
-use Rattle.book.specs.Rows.{at2}
+use Rattle.amounts.specs.Rows.{at2}
 
 abbrev pub delta : Book → ℕ → ℕ → ℤ
 delta b who c = at2 b.deltas who c (pos 0)

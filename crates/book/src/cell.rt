@@ -4,7 +4,7 @@ use crate::records::{Mark, Pool};
 
 #[derive(Clone, Copy)]
 pub enum Cell {
-    Pool(PoolId, Pool),
+    Pool(PoolId, Option<Pool>),
     Share(PoolId, Account, u32),
     Claim(Account, Currency, u32),
     // owner, spender, currency
@@ -12,6 +12,6 @@ pub enum Cell {
     // owner, spender
     Operator(Account, Account, bool),
     Delta(Account, Currency, i64),
-    Mark(Mark),
+    Mark(Option<Mark>),
     Steps(u32),
 }

@@ -10,5 +10,4 @@ mod writes;
 
 pub use cell::Cell;
 pub use ids::{Account, Currency, PoolId};
-pub use new::NO_MARK;
 pub use records::{Allowed, Book, Mark, Pool, Pools};

@@ -1,14 +1,14 @@
 // What stands in a cell.
-ghost use Rattle.std.specs.Prelude.{◌≡◌, false, pos};
-ghost use Rattle.book.specs.Cells.{no_pool, allowed};
-ghost use Rattle.book.specs.Rows.{at1, at2};
+ghost use Rattle.std.specs.Prelude.{◌≡◌, false, pos, None, get_or};
+ghost use Rattle.book.specs.Cells.{allowed};
+ghost use Rattle.amounts.specs.Rows.{at2};
 
 use crate::ids::{Account, Currency, PoolId};
 use crate::records::{Book, Pool};
 
 impl Book {
-    pub fn pool(&self, pool: PoolId) -> Pool
-        ensures { result ≡ at1 self.now.pools.rows pool.number no_pool }
+    pub fn pool(&self, pool: PoolId) -> Option<Pool>
+        ensures { result ≡ get_or self.now.pools.rows pool.number None }
     {
         self.pools.rows[pool.number as usize]
     }

@@ -12,16 +12,16 @@ pub struct Pool {
     pub total: u32,
 }
 
+// By pool; a pool that is not made yet is None. A struct of its own, to be lent whole to what changes a pool.
 #[derive(Clone, Copy)]
 pub struct Pools {
-    pub rows: [Pool; 8],
-    pub count: u32,
+    pub rows: [Option<Pool>; 8],
 }
 
-// The vault's balance in one currency at a `sync`, until a `settle`.
+// The vault's balance in one currency at a `sync`. The currency is a number, as in a pool: the definitions take numbers, and a tested one
+// holds a proof that they would have to give.
 #[derive(Clone, Copy)]
 pub struct Mark {
-    pub set: bool,
     pub currency: u32,
     pub balance: u32,
 }
@@ -32,6 +32,7 @@ pub struct Allowed {
     pub rows: [[u32; 8]; 16],
 }
 
+// Tables of fixed size, each by two numbers or three of its own: no record holds a row of several.
 #[derive(Clone, Copy)]
 pub struct Book {
     pub pools: Pools,
@@ -45,6 +46,7 @@ pub struct Book {
     pub operators: [[bool; 16]; 16],
     // by account and currency, above 0 where the vault owes the account
     pub deltas: [[i64; 8]; 16],
-    pub mark: Mark,
+    // from a `sync` to a `settle`
+    pub mark: Option<Mark>,
     pub steps: u32,
 }

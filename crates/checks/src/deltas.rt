@@ -6,24 +6,26 @@ ghost use Rattle.faults.specs.declared.cause.Cause.TheVariants.{Full as full, Ot
 use amounts::MOST;
 use faults::Cause;
 
-pub fn lowered(delta: i64, by: u32) -> Result<i64, Cause>
-    ensures { MatchResult result (λ d. (d ≡ delta -ℤ pos by) × (in_range (delta -ℤ pos by) ≡ true)) (λ f. (f ≡ full) × (in_range (delta -ℤ pos by) ≡ false)) }
+// A delta, where it is in range.
+fn ranged(next: i128) -> Result<i64, Cause>
+    ensures { MatchResult result (λ d. (d ≡ next) × (in_range next ≡ true)) (λ f. (f ≡ full) × (in_range next ≡ false)) }
 {
-    let next = delta as i128 - by as i128;
     if next < -(MOST as i128) || next > MOST as i128 {
         return Err(Cause::Full);
     }
     Ok(next as i64)
 }
 
+pub fn lowered(delta: i64, by: u32) -> Result<i64, Cause>
+    ensures { MatchResult result (λ d. (d ≡ delta -ℤ pos by) × (in_range (delta -ℤ pos by) ≡ true)) (λ f. (f ≡ full) × (in_range (delta -ℤ pos by) ≡ false)) }
+{
+    ranged(delta as i128 - by as i128)
+}
+
 pub fn raised(delta: i64, by: u32) -> Result<i64, Cause>
     ensures { MatchResult result (λ d. (d ≡ delta +ℤ pos by) × (in_range (delta +ℤ pos by) ≡ true)) (λ f. (f ≡ full) × (in_range (delta +ℤ pos by) ≡ false)) }
 {
-    let next = delta as i128 + by as i128;
-    if next < -(MOST as i128) || next > MOST as i128 {
-        return Err(Cause::Full);
-    }
-    Ok(next as i64)
+    ranged(delta as i128 + by as i128)
 }
 
 pub fn exactly(delta: i64, a: u32) -> Result<(), Cause>

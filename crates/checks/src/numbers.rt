@@ -1,4 +1,4 @@
-// Tests of single numbers.
+// Tests of single numbers. No `TryFrom`: an account has two tests, a currency's needs the bank's count, and a flag is a bool.
 ghost use Rattle.std.specs.Prelude.{◌≡◌, ◌+◌, ◌≤◌, true, false, not, ◌||◌, if◌then◌else◌, MatchResult, ◌==◌};
 ghost use Rattle.checks.specs.Tests.{is_account, is_account_or_vault, is_currency, is_amount, is_amount_or_none, is_flag, are_apart, has_step, has_room};
 ghost use Rattle.faults.specs.declared.cause.Cause.TheVariants.{Account as no_account, Currency as no_currency, Amount as no_amount, Choice as no_choice, SameAccount as one_account, Steps as no_step, Full as full};
@@ -10,10 +10,10 @@ use faults::Cause;
 pub fn account(number: u32) -> Result<Account, Cause>
     ensures { MatchResult result (λ a. (a.number ≡ number) × (is_account number ≡ true)) (λ f. (f ≡ no_account) × (is_account number ≡ false)) }
 {
-    if number == 0 || number >= 16 {
+    if number == 0 {
         return Err(Cause::Account);
     }
-    Ok(Account { number })
+    account_or_vault(number)
 }
 
 // The vault's own account 0 as well.
@@ -40,10 +40,10 @@ pub fn currency(count: u32, number: u32) -> Result<Currency, Cause>
 pub fn amount(a: u32) -> Result<(), Cause>
     ensures { MatchResult result (λ _. is_amount a ≡ true) (λ f. (f ≡ no_amount) × (is_amount a ≡ false)) }
 {
-    if a == 0 || a > MOST {
+    if a == 0 {
         return Err(Cause::Amount);
     }
-    Ok(())
+    amount_or_none(a)
 }
 
 pub fn amount_or_none(a: u32) -> Result<(), Cause>
@@ -58,16 +58,17 @@ pub fn amount_or_none(a: u32) -> Result<(), Cause>
 pub fn flag(n: u32) -> Result<bool, Cause>
     ensures { MatchResult result (λ b. (b ≡ (n == 1)) × (is_flag n ≡ true)) (λ f. (f ≡ no_choice) × (is_flag n ≡ false)) }
 {
-    if n >= 2 {
-        return Err(Cause::Choice);
+    match n {
+        0 => Ok(false),
+        1 => Ok(true),
+        _ => Err(Cause::Choice),
     }
-    Ok(n == 1)
 }
 
 pub fn apart(a: Account, b: Account) -> Result<(), Cause>
     ensures { MatchResult result (λ _. are_apart a.number b.number ≡ true) (λ f. (f ≡ one_account) × (are_apart a.number b.number ≡ false)) }
 {
-    if a.number == b.number {
+    if a == b {
         return Err(Cause::SameAccount);
     }
     Ok(())

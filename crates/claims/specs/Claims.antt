@@ -3,7 +3,7 @@ use Rattle.std.specs.Prelude.{ℕ, ◌+◌, ◌-◌, Bool, false, cond, not, ◌
 use Rattle.amounts.specs.Rounding.{most}
 use Rattle.book.specs.declared.records.Book.{Book}
 use Rattle.book.specs.Cells.{with_claim, with_allowance, with_delta, with_steps}
-use Rattle.book.specs.Rows.{at2}
+use Rattle.amounts.specs.Rows.{at2}
 pub use Rattle.book.specs.Reads.{delta, claim, allowance}
 use Rattle.checks.specs.Tests.{is_account, is_currency, is_amount, is_amount_or_none, are_apart, has_step, has_room, in_range}
 pub use Rattle.checks.specs.Tests.{steps_after}

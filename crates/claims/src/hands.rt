@@ -2,7 +2,7 @@
 ghost use Rattle.std.specs.Prelude.{◌≤◌};
 ghost use Rattle.claims.specs.Claims.{hand as hand_outcome, allow as allow_outcome};
 ghost use Rattle.store.specs.Outcome.{Meets};
-ghost use Rattle.store.specs.Room.{Grows};
+ghost use Rattle.store.specs.Room.{HasRoom};
 ghost use Rattle.store.specs.Saved.{world};
 
 use crate::rights::{allowance_after, decreased};
@@ -23,9 +23,8 @@ pub fn hand<T: TokenBank, H: HookBank>(
     c: u32,
     a: u32,
 ) -> Result<(), VaultFault>
-    requires { store.old.len ≤ 378 }
-    ensures comes { Meets T.TokenBank.meaning H.HookBank.meaning (hand_outcome session (world T.TokenBank.meaning H.HookBank.meaning store.old.held) caller from to c a) store.old store.new result }
-    ensures grows { Grows store.old.len store.new.len }
+    requires { HasRoom store.old }
+    ensures { Meets T.TokenBank.meaning H.HookBank.meaning (hand_outcome session (world T.TokenBank.meaning H.HookBank.meaning store.old.held) caller from to c a) store.old store.new result }
 {
     let caller = account(caller)?;
     let from = account(from)?;
@@ -53,9 +52,8 @@ pub fn allow<T: TokenBank, H: HookBank>(
     c: u32,
     a: u32,
 ) -> Result<(), VaultFault>
-    requires { store.old.len ≤ 378 }
-    ensures comes { Meets T.TokenBank.meaning H.HookBank.meaning (allow_outcome (world T.TokenBank.meaning H.HookBank.meaning store.old.held) owner spender c a) store.old store.new result }
-    ensures grows { Grows store.old.len store.new.len }
+    requires { HasRoom store.old }
+    ensures { Meets T.TokenBank.meaning H.HookBank.meaning (allow_outcome (world T.TokenBank.meaning H.HookBank.meaning store.old.held) owner spender c a) store.old store.new result }
 {
     let owner = account(owner)?;
     let spender = account(spender)?;

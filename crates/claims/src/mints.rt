@@ -2,7 +2,7 @@
 ghost use Rattle.std.specs.Prelude.{◌≤◌};
 ghost use Rattle.claims.specs.Claims.{mint as mint_outcome, burn as burn_outcome};
 ghost use Rattle.store.specs.Outcome.{Meets};
-ghost use Rattle.store.specs.Room.{Grows};
+ghost use Rattle.store.specs.Room.{HasRoom};
 ghost use Rattle.store.specs.Saved.{world};
 
 use crate::rights::{allowance_after, decreased};
@@ -20,9 +20,8 @@ pub fn mint<T: TokenBank, H: HookBank>(
     c: u32,
     a: u32,
 ) -> Result<(), VaultFault>
-    requires { store.old.len ≤ 378 }
-    ensures comes { Meets T.TokenBank.meaning H.HookBank.meaning (mint_outcome (world T.TokenBank.meaning H.HookBank.meaning store.old.held) who to c a) store.old store.new result }
-    ensures grows { Grows store.old.len store.new.len }
+    requires { HasRoom store.old }
+    ensures { Meets T.TokenBank.meaning H.HookBank.meaning (mint_outcome (world T.TokenBank.meaning H.HookBank.meaning store.old.held) who to c a) store.old store.new result }
 {
     let who = account(who)?;
     let to = account(to)?;
@@ -46,9 +45,8 @@ pub fn burn<T: TokenBank, H: HookBank>(
     c: u32,
     a: u32,
 ) -> Result<(), VaultFault>
-    requires { store.old.len ≤ 378 }
-    ensures comes { Meets T.TokenBank.meaning H.HookBank.meaning (burn_outcome (world T.TokenBank.meaning H.HookBank.meaning store.old.held) who from c a) store.old store.new result }
-    ensures grows { Grows store.old.len store.new.len }
+    requires { HasRoom store.old }
+    ensures { Meets T.TokenBank.meaning H.HookBank.meaning (burn_outcome (world T.TokenBank.meaning H.HookBank.meaning store.old.held) who from c a) store.old store.new result }
 {
     let who = account(who)?;
     let from = account(from)?;

@@ -20,7 +20,7 @@ pub fn allowance_after(
         (λ f. (f ≡ no_right) × (has_right book.now caller.number from.number c.number a ≡ false)) }
 {
     let allowance = book.allowance(from, caller, c);
-    if caller.number == from.number || book.is_operator(from, caller) {
+    if caller == from || book.is_operator(from, caller) {
         return Ok(allowance);
     }
     if allowance < a {
@@ -36,8 +36,5 @@ pub fn allowance_after(
 pub fn decreased(claim: u32, a: u32) -> Result<u32, Cause>
     ensures { MatchResult result (λ n. (n ≡ claim - a) × (nat_le a claim ≡ true)) (λ f. (f ≡ claim_short) × (nat_le a claim ≡ false)) }
 {
-    if claim < a {
-        return Err(Cause::ClaimShort);
-    }
-    Ok(claim - a)
+    claim.checked_sub(a).ok_or(Cause::ClaimShort)
 }

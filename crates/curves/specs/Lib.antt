@@ -8,3 +8,4 @@ pub mod Options
 pub mod Fees
 pub mod Singles
 pub mod Floors
+pub mod Texts

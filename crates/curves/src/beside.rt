@@ -1,25 +1,12 @@
 // Two banks of curves side by side.
-ghost use Rattle.std.specs.Prelude.{◌≡◌};
 ghost use Rattle.curves.specs.Beside.{beside};
 ghost use Rattle.curves.specs.Pairs.{beside_lawful};
 
 use crate::bank::{CurveBank, CurveFault};
-use amounts::{Place, pair_count, place_of};
+use crate::market::Market;
+use amounts::{Beside, Place, pair_count, place_of};
 
-#[derive(Drop)]
-pub struct Beside<First, Second> {
-    first: First,
-    second: Second,
-}
-
-impl<First, Second> Beside<First, Second> {
-    pub fn new(first: First, second: Second) -> Self
-        ensures { (result.first ≡ first) × (result.second ≡ second) }
-    {
-        Beside { first, second }
-    }
-}
-
+// Each operation finds its bank by a match: a closure for each bank would say the same two calls, and a contract of each besides.
 impl<First: CurveBank, Second: CurveBank> CurveBank for Beside<First, Second> {
     ghost meaning = { λ s. beside (First.CurveBank.meaning s.first) (Second.CurveBank.meaning s.second) };
 
@@ -29,19 +16,17 @@ impl<First: CurveBank, Second: CurveBank> CurveBank for Beside<First, Second> {
         pair_count(self.first.count(), self.second.count(), 8)
     }
 
-    fn buy(&self, curve: u32, direction: u32, x: u32, y: u32, a: u32) -> Result<u32, CurveFault> {
-        match place_of(curve, self.first.count(), 8) {
-            Place::First(c) => self.first.buy(c, direction, x, y, a),
-            Place::Second(c) => self.second.buy(c, direction, x, y, a),
-            Place::Nowhere => Err(CurveFault::NoAnswer),
+    fn buy(&self, market: Market, a: u32) -> Result<u32, CurveFault> {
+        match place_of(market.curve, self.first.count(), 8).ok_or(CurveFault::NoAnswer)? {
+            Place::First(c) => self.first.buy(Market { curve: c, ..market }, a),
+            Place::Second(c) => self.second.buy(Market { curve: c, ..market }, a),
         }
     }
 
-    fn price(&self, curve: u32, direction: u32, x: u32, y: u32, b: u32) -> Result<u32, CurveFault> {
-        match place_of(curve, self.first.count(), 8) {
-            Place::First(c) => self.first.price(c, direction, x, y, b),
-            Place::Second(c) => self.second.price(c, direction, x, y, b),
-            Place::Nowhere => Err(CurveFault::NoAnswer),
+    fn price(&self, market: Market, b: u32) -> Result<u32, CurveFault> {
+        match place_of(market.curve, self.first.count(), 8).ok_or(CurveFault::NoAnswer)? {
+            Place::First(c) => self.first.price(Market { curve: c, ..market }, b),
+            Place::Second(c) => self.second.price(Market { curve: c, ..market }, b),
         }
     }
 }

@@ -4,7 +4,7 @@ ghost use Rattle.curves.specs.Fee.{fee};
 ghost use Rattle.curves.specs.Fees.{fee_lawful};
 
 use crate::bank::{CurveBank, CurveFault};
-use crate::sides::{input_side, with_room};
+use crate::market::Market;
 use amounts::{Rate, RateFault};
 
 #[derive(Drop)]
@@ -32,14 +32,13 @@ impl<C: CurveBank> CurveBank for Fee<C> {
         self.inner.count()
     }
 
-    fn buy(&self, curve: u32, direction: u32, x: u32, y: u32, a: u32) -> Result<u32, CurveFault> {
-        let input = with_room(input_side(direction, x, y), a as u64)?;
-        self.inner
-            .buy(curve, direction, x, y, self.rate.left_of(input))
+    fn buy(&self, market: Market, a: u32) -> Result<u32, CurveFault> {
+        let input = market.with_room(a as u64)?;
+        self.inner.buy(market, self.rate.left_of(input))
     }
 
-    fn price(&self, curve: u32, direction: u32, x: u32, y: u32, b: u32) -> Result<u32, CurveFault> {
-        let net = self.inner.price(curve, direction, x, y, b)?;
-        with_room(input_side(direction, x, y), self.rate.gross_of(net))
+    fn price(&self, market: Market, b: u32) -> Result<u32, CurveFault> {
+        let net = self.inner.price(market, b)?;
+        market.with_room(self.rate.gross_of(net))
     }
 }

@@ -4,12 +4,14 @@
 mod bank;
 mod beside;
 mod fee;
+mod market;
 mod product;
-mod sides;
 mod sum;
+mod texts;
 
+pub use amounts::Beside;
 pub use bank::{CurveBank, CurveFault};
-pub use beside::Beside;
 pub use fee::Fee;
+pub use market::Market;
 pub use product::Product;
 pub use sum::Sum;

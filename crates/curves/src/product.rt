@@ -5,7 +5,7 @@ ghost use Rattle.curves.specs.Single.{product};
 ghost use Rattle.curves.specs.Singles.{product_lawful};
 
 use crate::bank::{CurveBank, CurveFault};
-use crate::sides::{sides_of, with_room};
+use crate::market::Market;
 
 #[derive(Clone, Copy)]
 pub struct Product;
@@ -27,21 +27,21 @@ impl CurveBank for Product {
         1
     }
 
-    fn buy(&self, curve: u32, direction: u32, x: u32, y: u32, a: u32) -> Result<u32, CurveFault> {
-        let s = sides_of(curve, direction, x, y)?;
-        if s.input == 0 || s.output == 0 {
+    fn buy(&self, market: Market, a: u32) -> Result<u32, CurveFault> {
+        let sides = market.sides()?;
+        if sides.input == 0 || sides.output == 0 {
             return Err(CurveFault::NoAnswer);
         }
-        let input = with_room(s.input, a as u64)?;
-        Ok(output_for(s.input, s.output, input))
+        let input = market.with_room(a as u64)?;
+        Ok(output_for(sides.input, sides.output, input))
     }
 
-    fn price(&self, curve: u32, direction: u32, x: u32, y: u32, b: u32) -> Result<u32, CurveFault> {
-        let s = sides_of(curve, direction, x, y)?;
-        if s.input == 0 || b >= s.output {
+    fn price(&self, market: Market, b: u32) -> Result<u32, CurveFault> {
+        let sides = market.sides()?;
+        if sides.input == 0 || b >= sides.output {
             return Err(CurveFault::NoAnswer);
         }
-        let input = s.input as u64 * b as u64 / (s.output - b) as u64 + 1;
-        with_room(s.input, input)
+        let input = sides.input as u64 * b as u64 / (sides.output - b) as u64 + 1;
+        market.with_room(input)
     }
 }

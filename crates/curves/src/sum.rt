@@ -5,20 +5,20 @@ ghost use Rattle.curves.specs.Single.{seen, sum, sum_trade};
 ghost use Rattle.curves.specs.Singles.{sum_lawful};
 
 use crate::bank::{CurveBank, CurveFault};
-use crate::sides::{sides_of, with_room};
+use crate::market::Market;
 
 #[derive(Clone, Copy)]
 pub struct Sum;
 
 // A unit for a unit, whichever of the two is named.
-fn traded(curve: u32, direction: u32, x: u32, y: u32, n: u32) -> Result<u32, CurveFault>
-    ensures { result ≡ answered (seen sum_trade curve direction x y n) }
+fn traded(market: Market, n: u32) -> Result<u32, CurveFault>
+    ensures { result ≡ answered (seen sum_trade market.curve market.direction market.x market.y n) }
 {
-    let s = sides_of(curve, direction, x, y)?;
-    if n > s.output {
+    let sides = market.sides()?;
+    if n > sides.output {
         return Err(CurveFault::NoAnswer);
     }
-    with_room(s.input, n as u64)
+    market.with_room(n as u64)
 }
 
 impl CurveBank for Sum {
@@ -30,11 +30,11 @@ impl CurveBank for Sum {
         1
     }
 
-    fn buy(&self, curve: u32, direction: u32, x: u32, y: u32, a: u32) -> Result<u32, CurveFault> {
-        traded(curve, direction, x, y, a)
+    fn buy(&self, market: Market, a: u32) -> Result<u32, CurveFault> {
+        traded(market, a)
     }
 
-    fn price(&self, curve: u32, direction: u32, x: u32, y: u32, b: u32) -> Result<u32, CurveFault> {
-        traded(curve, direction, x, y, b)
+    fn price(&self, market: Market, b: u32) -> Result<u32, CurveFault> {
+        traded(market, b)
     }
 }

@@ -1,55 +1,40 @@
 // Payments through a plain and a levy ledger side by side: what is sent arrives or is in the pot.
 use crate::stop::Stop;
 use std::io;
-use tokens::{Beside, Ledger, TokenBank, TokenFault, circulating};
+use tokens::{Beside, Ledger, TokenBank, Transfer, circulating};
 
-const NOTHING: [u32; 16] = [0; 16];
+// A million in each account but the vault's; a ledger reads as many rows as it has currencies.
+fn opening() -> [[u32; 16]; 8] {
+    let mut row = [1_000_000; 16];
+    row[0] = 0;
+    [row; 8]
+}
 
-const MILLIONS: [u32; 16] = [
-    0, 1000000, 1000000, 1000000, 1000000, 1000000, 1000000, 1000000, 1000000, 1000000, 1000000,
-    1000000, 1000000, 1000000, 1000000, 1000000,
-];
-
-fn why(fault: TokenFault) -> &'static str {
-    match fault {
-        TokenFault::UnknownCurrency => "no such currency",
-        TokenFault::UnknownAccount => "no such account",
-        TokenFault::SameAccount => "payer and payee are one account",
-        TokenFault::NoAmount => "an amount of 0",
-        TokenFault::Short => "there is not enough to take",
+fn sent(currency: u32, from: u32, to: u32, amount: u32) -> Transfer {
+    Transfer {
+        currency,
+        from,
+        to,
+        amount,
     }
 }
 
-fn paid<T: TokenBank>(
-    rt: &HostRuntime,
-    bank: &mut T,
-    currency: u32,
-    from: u32,
-    to: u32,
-    amount: u32,
-) -> io::Result<()> {
-    print!(rt; "  pay {amount} of currency {currency} from {from} to {to} -> ")?;
-    match bank.transfer(currency, from, to, amount) {
+fn paid<T: TokenBank>(rt: &HostRuntime, bank: &mut T, t: Transfer) -> io::Result<()> {
+    print!(rt; "  pay {t} -> ")?;
+    match bank.transfer(t) {
         Ok(arrived) => println!(rt;
             "{arrived} arrived, {} went to the pot",
-            amount.saturating_sub(arrived)
+            t.amount.saturating_sub(arrived)
         ),
-        Err(fault) => println!(rt; "refused: {}", why(fault)),
+        Err(fault) => println!(rt; "refused: {fault}"),
     }
 }
 
-fn taken_back<T: TokenBank>(
-    rt: &HostRuntime,
-    bank: &mut T,
-    currency: u32,
-    from: u32,
-    to: u32,
-    amount: u32,
-) -> io::Result<()> {
-    print!(rt; "  take back {amount} of currency {currency} from {from} to {to} -> ")?;
-    match bank.unmove(currency, from, to, amount) {
+fn taken_back<T: TokenBank>(rt: &HostRuntime, bank: &mut T, t: Transfer) -> io::Result<()> {
+    print!(rt; "  take back {t} -> ")?;
+    match bank.unmove(t) {
         Ok(()) => println!(rt; "done"),
-        Err(fault) => println!(rt; "refused: {}", why(fault)),
+        Err(fault) => println!(rt; "refused: {fault}"),
     }
 }
 
@@ -57,38 +42,28 @@ fn held<T: TokenBank>(rt: &HostRuntime, bank: &T, currency: u32) -> io::Result<(
     print!(rt; "  all accounts hold of currency {currency} -> ")?;
     match circulating(bank, currency) {
         Ok(sum) => println!(rt; "{sum}"),
-        Err(fault) => println!(rt; "refused: {}", why(fault)),
+        Err(fault) => println!(rt; "refused: {fault}"),
     }
 }
 
 pub fn show(rt: &HostRuntime) -> Result<(), Stop> {
-    let plain = Ledger::plain(
-        3,
-        [
-            MILLIONS, MILLIONS, MILLIONS, NOTHING, NOTHING, NOTHING, NOTHING, NOTHING,
-        ],
-    )?;
-    let levy = Ledger::levy(
-        1,
-        [
-            MILLIONS, NOTHING, NOTHING, NOTHING, NOTHING, NOTHING, NOTHING, NOTHING,
-        ],
-        100,
-    )?;
+    let plain = Ledger::plain(3, opening())?;
+    let levy = Ledger::levy(1, opening(), 100)?;
     let mut bank = Beside::new(plain, levy);
+    let levied = sent(3, 1, 0, 500);
     println!(rt; "Payments (currencies 0 to 2 plain, 3 with a levy of 100 ten-thousandths)")?;
     held(rt, &bank, 3)?;
-    paid(rt, &mut bank, 3, 1, 0, 500)?;
+    paid(rt, &mut bank, levied)?;
     held(rt, &bank, 3)?;
-    taken_back(rt, &mut bank, 3, 1, 0, 500)?;
+    taken_back(rt, &mut bank, levied)?;
     held(rt, &bank, 3)?;
-    paid(rt, &mut bank, 0, 1, 2, 500)?;
+    paid(rt, &mut bank, sent(0, 1, 2, 500))?;
     held(rt, &bank, 0)?;
-    paid(rt, &mut bank, 0, 2, 3, 1000501)?;
-    paid(rt, &mut bank, 0, 2, 2, 1)?;
-    paid(rt, &mut bank, 0, 2, 3, 0)?;
-    paid(rt, &mut bank, 0, 2, 16, 1)?;
-    paid(rt, &mut bank, 4, 2, 3, 1)?;
-    taken_back(rt, &mut bank, 3, 1, 0, 500)?;
+    paid(rt, &mut bank, sent(0, 2, 3, 1000501))?;
+    paid(rt, &mut bank, sent(0, 2, 2, 1))?;
+    paid(rt, &mut bank, sent(0, 2, 3, 0))?;
+    paid(rt, &mut bank, sent(0, 2, 16, 1))?;
+    paid(rt, &mut bank, sent(4, 2, 3, 1))?;
+    taken_back(rt, &mut bank, levied)?;
     Ok(())
 }

@@ -1,4 +1,4 @@
-// Why the program stops before its end: it cannot print, or a bank was not made.
+// Why the program stops before its end: it cannot print, or a bank was not made. Each program has an enum of what it can meet.
 ghost use Rattle.std.specs.Prelude.{◌≡◌};
 ghost use Rattle.exchange.specs.declared.stop.Stop.TheVariants.{Print, Curves, Ledger, Hooks};
 
@@ -15,6 +15,7 @@ pub enum Stop {
     Hooks(HookSetupFault),
 }
 
+// Each From is written out, to state which fault came: a derived one states nothing.
 impl From<io::Error> for Stop {
     ghost from_gives = { λ e r. r ≡ Print e };
 

@@ -1,65 +1,47 @@
 // Asking and telling each ready-made hook.
 use crate::stop::Stop;
-use hooks::{Beside, Hook, HookBank, HookFault};
-use std::io;
+use hooks::{Beside, Hook, HookBank, HookFault, Passage};
+use std::{fmt, io};
 
-fn refused(rt: &HostRuntime, fault: HookFault) -> io::Result<()> {
-    match fault {
-        HookFault::Unknown => println!(rt; "refused: no such hook"),
-        HookFault::Denied(reason) => println!(rt; "denied, with reason {reason}"),
-        HookFault::Illegal => println!(rt; "refused: the hook has no such number"),
-    }
-}
-
-fn asked<H: HookBank>(
+// One line: what a hook was asked, and its answer under a name, or why there is none.
+fn line(
     rt: &HostRuntime,
-    bank: &H,
-    hook: u32,
-    input: u32,
-    output: u32,
+    asked: impl fmt::Display + Drop,
+    name: &str,
+    answer: Result<u32, HookFault>,
 ) -> io::Result<()> {
-    print!(rt; "  ask hook {hook} of {input} in and {output} out -> ")?;
-    match bank.ask(hook, input, output) {
-        Ok(toll) => println!(rt; "toll {toll}"),
-        Err(fault) => refused(rt, fault),
-    }
-}
-
-fn told<H: HookBank>(
-    rt: &HostRuntime,
-    bank: &mut H,
-    hook: u32,
-    input: u32,
-    output: u32,
-) -> io::Result<()> {
-    print!(rt; "  tell hook {hook} of {input} in and {output} out -> ")?;
-    match bank.tell(hook, input, output) {
-        Ok(()) => numbered(rt, bank, hook),
-        Err(fault) => refused(rt, fault),
-    }
-}
-
-fn set<H: HookBank>(rt: &HostRuntime, bank: &mut H, hook: u32, number: u32) -> io::Result<()> {
-    print!(rt; "  set hook {hook} to {number} -> ")?;
-    match bank.set(hook, number) {
-        Ok(()) => numbered(rt, bank, hook),
-        Err(fault) => refused(rt, fault),
-    }
-}
-
-fn numbered<H: HookBank>(rt: &HostRuntime, bank: &H, hook: u32) -> io::Result<()> {
-    match bank.number(hook) {
-        Ok(number) => println!(rt; "its number is {number}"),
-        Err(fault) => refused(rt, fault),
+    match answer {
+        Ok(n) => println!(rt; "  {asked} -> {name} {n}"),
+        Err(fault) => println!(rt; "  {asked} -> {fault}"),
     }
 }
 
 fn paid<H: HookBank>(rt: &HostRuntime, bank: &H, hook: u32) -> io::Result<()> {
-    print!(rt; "  payee of hook {hook} -> ")?;
-    match bank.payee(hook) {
-        Ok(account) => println!(rt; "account {account}"),
-        Err(fault) => refused(rt, fault),
-    }
+    line(
+        rt,
+        format_args!("payee of hook {hook}"),
+        "account",
+        bank.payee(hook),
+    )
+}
+
+fn asked<H: HookBank>(rt: &HostRuntime, bank: &H, p: Passage) -> io::Result<()> {
+    line(rt, format_args!("ask {p}"), "toll", bank.ask(p))
+}
+
+fn told<H: HookBank>(rt: &HostRuntime, bank: &mut H, p: Passage) -> io::Result<()> {
+    let number = bank.tell(p).and_then(|()| bank.number(p.hook));
+    line(rt, format_args!("tell {p}"), "its number is", number)
+}
+
+fn set<H: HookBank>(rt: &HostRuntime, bank: &mut H, hook: u32, number: u32) -> io::Result<()> {
+    let kept = bank.set(hook, number).and_then(|()| bank.number(hook));
+    line(
+        rt,
+        format_args!("set hook {hook} to {number}"),
+        "its number is",
+        kept,
+    )
 }
 
 pub fn show(rt: &HostRuntime) -> Result<(), Stop> {
@@ -68,11 +50,21 @@ pub fn show(rt: &HostRuntime) -> Result<(), Stop> {
     println!(rt; "Hooks (0 open, 1 toll of 50 ten-thousandths, 2 volume with a cap of 1000)")?;
     for hook in 0..4u32 {
         paid(rt, &bank, hook)?;
-        asked(rt, &bank, hook, 600, 9000)?;
-        told(rt, &mut bank, hook, 600, 9000)?;
-        asked(rt, &bank, hook, 600, 9000)?;
+        let passage = Passage {
+            hook,
+            input: 600,
+            output: 9000,
+        };
+        asked(rt, &bank, passage)?;
+        told(rt, &mut bank, passage)?;
+        asked(rt, &bank, passage)?;
     }
-    asked(rt, &bank, 2, 400, 1)?;
+    let smaller = Passage {
+        hook: 2,
+        input: 400,
+        output: 1,
+    };
+    asked(rt, &bank, smaller)?;
     set(rt, &mut bank, 2, 1001)?;
     set(rt, &mut bank, 2, 0)?;
     set(rt, &mut bank, 1, 1)?;

@@ -2,6 +2,7 @@
 #![tactic(auto)]
 
 mod cause;
+mod print;
 mod report;
 
 pub use cause::{Cause, VaultFault};

@@ -25,6 +25,7 @@ pub struct Report {
 }
 
 impl Cause {
+    // As the rulebook numbers them.
     fn number(self) -> u32
         ensures { result ≡ number_of self }
     {
@@ -97,7 +98,7 @@ impl VaultFault {
     }
 }
 
-// A cause that concerns no pool.
+// A cause that concerns no pool. Written out, to state which fault comes of it.
 impl From<Cause> for VaultFault {
     ghost from_gives = { λ e r. r ≡ unplaced e };
 

@@ -1,3 +1,4 @@
 pub mod Figures
 pub mod Holds
 pub mod Worked
+pub mod Texts

@@ -4,6 +4,7 @@
 mod bank;
 mod question;
 mod table;
+mod texts;
 
 pub use bank::{ExampleCurves, example_curves};
 pub use question::{Answer, Question};

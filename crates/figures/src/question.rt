@@ -1,9 +1,9 @@
 // Questions to the share formulas and to curves, answered by the code that the vault runs.
 ghost use Rattle.std.specs.Prelude.{◌≡◌};
-ghost use Rattle.figures.specs.Figures.{answer_of, quoted};
+ghost use Rattle.figures.specs.Figures.{answer_of};
 
 use amounts::{deposit_cost, seeded, withdrawn};
-use curves::{CurveBank, CurveFault};
+use curves::{CurveBank, Market};
 
 #[derive(Clone, Copy)]
 pub enum Question {
@@ -12,19 +12,14 @@ pub enum Question {
         b: u32,
     },
     Buy {
-        curve: u32,
-        direction: u32,
-        x: u32,
-        y: u32,
+        market: Market,
         a: u32,
     },
     Price {
-        curve: u32,
-        direction: u32,
-        x: u32,
-        y: u32,
+        market: Market,
         b: u32,
     },
+    // shares, holdings and total: four numbers that no function takes together
     Add {
         shares: u32,
         x: u32,
@@ -41,69 +36,36 @@ pub enum Question {
 
 #[derive(Clone, Copy, PartialEq)]
 pub enum Answer {
-    Refused,
     One(u32),
     Two(u64, u64),
 }
 
-fn quote(r: Result<u32, CurveFault>) -> Answer
-    ensures { result ≡ quoted r }
-{
-    match r {
-        Ok(n) => Answer::One(n),
-        Err(CurveFault::NoAnswer) => Answer::Refused,
-    }
-}
-
 impl Question {
-    // What the code answers over a bank of curves. A pool without shares sells and redeems none.
-    pub fn answer<C: CurveBank>(self, bank: &C) -> Answer
+    // What the code answers over a bank of curves, or None where it refuses.
+    pub fn answer<C: CurveBank>(self, bank: &C) -> Option<Answer>
         ensures { result ≡ answer_of (C.CurveBank.meaning bank.now) self }
     {
         match self {
-            Question::Seed { a, b } => match seeded(a, b) {
-                Some(shares) => Answer::One(shares),
-                None => Answer::Refused,
-            },
-            Question::Buy {
-                curve,
-                direction,
-                x,
-                y,
-                a,
-            } => quote(bank.buy(curve, direction, x, y, a)),
-            Question::Price {
-                curve,
-                direction,
-                x,
-                y,
-                b,
-            } => quote(bank.price(curve, direction, x, y, b)),
+            Question::Seed { a, b } => seeded(a, b).map(Answer::One),
+            Question::Buy { market, a } => bank.buy(market, a).ok().map(Answer::One),
+            Question::Price { market, b } => bank.price(market, b).ok().map(Answer::One),
+            // A pool without shares sells and redeems none.
+            Question::Add { total: 0, .. } | Question::Remove { total: 0, .. } => None,
             Question::Add {
                 shares,
                 x,
                 y,
                 total,
-            } => {
-                if total == 0 {
-                    return Answer::Refused;
-                }
-                Answer::Two(
-                    deposit_cost(shares, x, total),
-                    deposit_cost(shares, y, total),
-                )
-            }
+            } => Some(Answer::Two(
+                deposit_cost(shares, x, total),
+                deposit_cost(shares, y, total),
+            )),
             Question::Remove {
                 shares,
                 x,
                 y,
                 total,
-            } => {
-                if total == 0 {
-                    return Answer::Refused;
-                }
-                Answer::Two(withdrawn(shares, x, total), withdrawn(shares, y, total))
-            }
+            } => Some(Answer::Two(withdrawn(shares, x, total), withdrawn(shares, y, total))),
         }
     }
 }

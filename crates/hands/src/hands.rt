@@ -2,7 +2,7 @@
 ghost use Rattle.std.specs.Prelude.{◌≤◌};
 ghost use Rattle.hands.specs.Hands.{operator as operator_outcome};
 ghost use Rattle.store.specs.Outcome.{Meets};
-ghost use Rattle.store.specs.Room.{Grows};
+ghost use Rattle.store.specs.Room.{HasRoom};
 ghost use Rattle.store.specs.Saved.{world};
 
 use book::Cell;
@@ -18,9 +18,8 @@ pub fn operator<T: TokenBank, H: HookBank>(
     spender: u32,
     set: u32,
 ) -> Result<Answer, VaultFault>
-    requires { store.old.len ≤ 378 }
-    ensures comes { Meets T.TokenBank.meaning H.HookBank.meaning (operator_outcome (world T.TokenBank.meaning H.HookBank.meaning store.old.held) owner spender set) store.old store.new result }
-    ensures grows { Grows store.old.len store.new.len }
+    requires { HasRoom store.old }
+    ensures { Meets T.TokenBank.meaning H.HookBank.meaning (operator_outcome (world T.TokenBank.meaning H.HookBank.meaning store.old.held) owner spender set) store.old store.new result }
 {
     let owner = account(owner)?;
     let spender = account(spender)?;

@@ -1,7 +1,7 @@
 -- A ready-made hook keeps the laws of a bank. Assumes nothing.
 use Rattle.std.proofs.Common.{rules, arith}
 use Rattle.std.specs.Prelude.{◌≡◌, ℕ, ◌-◌, ◌≤◌, true}
-use Rattle.std.proofs.lemmas.Nat.{mul-le}
+use Rattle.std.proofs.lemmas.Grind.{common_steps}
 use Rattle.std.proofs.lemmas.Bool.Decides.{nat_tests}
 use Rattle.amounts.specs.Rounding.{part}
 use Rattle.hooks.specs.declared.rule.HookRule.{HookRule}
@@ -12,7 +12,7 @@ use Rattle.hooks.specs.Rules.{sound_hook, rule_ask}
 
 -- a tenth at most is below the whole
 part_below : (o r : ℕ) → r ≤ 1000 → part o r ≤ o - 1
-part_below o r h = let all : o ≤ o = omega arith in omega (arith, mul-le o r o 1000 all h)
+part_below o r h = grind (arith, common_steps)
 
 fits : (rule : HookRule) (n i o : ℕ) → Fit (rule_ask rule n i o) o
 fits Open n i o = omega arith

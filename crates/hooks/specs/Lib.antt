@@ -5,3 +5,4 @@ pub mod Ready
 pub mod Beside
 pub mod Pairs
 pub mod Lawfulness
+pub mod Texts

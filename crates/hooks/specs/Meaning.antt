@@ -1,5 +1,7 @@
 -- A bank of hooks, what its operations answer, and what they leave. Assumes nothing.
-use Rattle.std.specs.Prelude.{ℕ, Bool, true, false, cond, ◌&&◌, Ok, Err, Result, ◌==◌, nat_lt}
+use Rattle.std.specs.Prelude.{ℕ, Bool, true, false, cond, ◌&&◌, Ok, Err, Result, nat_lt}
+use Rattle.amounts.specs.Checks.{need}
+use Rattle.amounts.specs.Rows.{at}
 use Rattle.hooks.specs.declared.bank.HookFault.{HookFault}
 use Rattle.hooks.specs.declared.bank.HookFault.TheVariants.{Unknown, Denied, Illegal}
 
@@ -29,13 +31,9 @@ known m h = nat_lt h m.count
 abbrev pub verdict : Hooks → ℕ → ℕ → ℕ → Verdict
 verdict m h i o = m.ask h (m.number h) i o
 
--- f with another value at one place
-abbrev pub at : (ℕ → ℕ) → ℕ → ℕ → ℕ → ℕ
-at f i v k = cond (k == i) v (f k)
-
 -- all as it is, but for one hook's number
 abbrev pub numbered : Hooks → ℕ → ℕ → Hooks
-numbered m h n = record { count = m.count; number = at m.number h n; legal = m.legal; payee = m.payee; ask = m.ask; step = m.step }
+numbered m h n = record m { number = at m.number h n }
 
 -- a hook that is told makes a step, unless it denies
 abbrev pub told : Hooks → ℕ → ℕ → ℕ → Hooks
@@ -44,24 +42,21 @@ told m h i o = cond (known m h && passes (verdict m h i o)) (numbered m h (m.ste
 abbrev pub after_set : Hooks → ℕ → ℕ → Hooks
 after_set m h n = cond (known m h && m.legal h n) (numbered m h n) m
 
-abbrev pub if_known : {R : Type 0} → Hooks → ℕ → Result R HookFault → Result R HookFault
-if_known m h r = cond (known m h) r (Err Unknown)
-
 abbrev pub known_answer : Hooks → ℕ → Result (Unit {0}) HookFault
-known_answer m h = if_known m h (Ok tt)
+known_answer m h = need (known m h) Unknown (Ok tt)
 
 abbrev pub payee_answer : Hooks → ℕ → Result ℕ HookFault
-payee_answer m h = if_known m h (Ok (m.payee h))
+payee_answer m h = need (known m h) Unknown (Ok (m.payee h))
 
 abbrev pub verdict_answer : Verdict → Result ℕ HookFault
 verdict_answer (denied reason) = Err (Denied reason)
 verdict_answer (toll t) = Ok t
 
 abbrev pub ask_answer : Hooks → ℕ → ℕ → ℕ → Result ℕ HookFault
-ask_answer m h i o = if_known m h (verdict_answer (verdict m h i o))
+ask_answer m h i o = need (known m h) Unknown (verdict_answer (verdict m h i o))
 
 abbrev pub number_answer : Hooks → ℕ → Result ℕ HookFault
-number_answer m h = if_known m h (Ok (m.number h))
+number_answer m h = need (known m h) Unknown (Ok (m.number h))
 
 abbrev pub set_answer : Hooks → ℕ → ℕ → Result (Unit {0}) HookFault
-set_answer m h n = if_known m h (cond (m.legal h n) (Ok tt) (Err Illegal))
+set_answer m h n = need (known m h) Unknown (need (m.legal h n) Illegal (Ok tt))

@@ -1,12 +1,14 @@
 -- A ready-made hook as a bank of one, and why one is not made. Assumes nothing.
-use Rattle.std.specs.Prelude.{◌≡◌, ℕ, Bool, cond, leb, Some, None, Ok, Err, Option, Result, nat_le}
+use Rattle.std.specs.Prelude.{◌≡◌, ℕ, Ok, Err, Result, nat_le}
+use Rattle.amounts.specs.Checks.{need}
 use Rattle.amounts.specs.Rounding.{most}
+use Rattle.amounts.specs.Rows.{at}
 use Rattle.hooks.specs.declared.hook.Hook.{Hook}
 use Rattle.hooks.specs.declared.ready.HookSetupFault.{HookSetupFault}
 use Rattle.hooks.specs.declared.ready.HookSetupFault.TheVariants.{Payee, Rate, Cap, Number}
 use Rattle.hooks.specs.declared.rule.HookRule.{HookRule}
 use Rattle.hooks.specs.declared.rule.HookRule.TheVariants.{Open, Toll, Volume}
-use Rattle.hooks.specs.Meaning.{Hooks, at}
+use Rattle.hooks.specs.Meaning.{Hooks}
 use Rattle.hooks.specs.Rules.{rule_legal, rule_ask, rule_step, lawful_payee}
 
 -- hook 0, and no other
@@ -17,25 +19,21 @@ ready rule payee number = record { count = 1; number = at (λ _. 0) 0 number; le
 abbrev pub of_hook : Hook → Hooks
 of_hook h = ready h.rule h.payee h.number
 
--- what a constructor answers: the fault if there is one, else a hook of which P holds
-abbrev pub Made : Result Hook HookSetupFault → Option HookSetupFault → (Hook → Type 0) → Type 0
-Made (Ok h) None P = P h
-Made (Ok h) (Some fault) P = ⊥
-Made (Err e) None P = ⊥
-Made (Err e) (Some fault) P = e ≡ fault
+-- what a constructor answers: the fault of the tests if there is one, else a hook of which P holds
+abbrev pub Made : Result Hook HookSetupFault → Result Unit HookSetupFault → (Hook → Type 0) → Type 0
+Made (Ok h) (Ok tests) P = P h
+Made (Ok h) (Err fault) P = ⊥
+Made (Err e) (Ok tests) P = ⊥
+Made (Err e) (Err fault) P = e ≡ fault
 
--- this fault, unless all is fine with it; then the rest decides
-abbrev pub unless : Bool → HookSetupFault → Option HookSetupFault → Option HookSetupFault
-unless fine fault rest = cond fine rest (Some fault)
+abbrev pub open_tests : ℕ → Result Unit HookSetupFault
+open_tests payee = need (lawful_payee payee) Payee (Ok tt)
 
-abbrev pub open_fault : ℕ → Option HookSetupFault
-open_fault payee = unless (lawful_payee payee) Payee None
+abbrev pub toll_tests : ℕ → ℕ → Result Unit HookSetupFault
+toll_tests payee rate = need (lawful_payee payee) Payee (need (nat_le rate 1000) Rate (Ok tt))
 
-abbrev pub toll_fault : ℕ → ℕ → Option HookSetupFault
-toll_fault payee rate = unless (lawful_payee payee) Payee (unless (nat_le rate 1000) Rate None)
-
-abbrev pub volume_fault : ℕ → ℕ → ℕ → Option HookSetupFault
-volume_fault payee «cap» number = unless (lawful_payee payee) Payee (unless (leb «cap» most) Cap (unless (leb number «cap») Number None))
+abbrev pub volume_tests : ℕ → ℕ → ℕ → Result Unit HookSetupFault
+volume_tests payee «cap» number = need (lawful_payee payee) Payee (need (nat_le «cap» most) Cap (need (nat_le number «cap») Number (Ok tt)))
 
 -- the rule is a toll at this rate
 abbrev pub Tolls : HookRule → ℕ → Type 0

@@ -4,10 +4,13 @@
 mod bank;
 mod beside;
 mod hook;
+mod passage;
 mod ready;
 mod rule;
+mod texts;
 
+pub use amounts::Beside;
 pub use bank::{HookBank, HookFault};
-pub use beside::Beside;
 pub use hook::Hook;
+pub use passage::Passage;
 pub use ready::HookSetupFault;

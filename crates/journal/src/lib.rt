@@ -20,9 +20,7 @@ pub trait Undo<E> {
 pub fn rewind<E, W: Undo<E>>(state: &mut W, entries: &[E])
     ensures { W.model state.new ≡ rewound W.undone (W.model state.old) entries.now }
 {
-    let mut left = entries.len();
-    while left > 0 {
-        left -= 1;
-        state.undo(&entries[left]);
+    for entry in entries.iter().rev() {
+        state.undo(entry);
     }
 }

@@ -1,8 +1,7 @@
 -- What the calls on tokens and debts come to, on what holds. Assumes nothing.
-use Rattle.std.specs.Prelude.{ℕ, ◌+◌, ◌-◌, Bool, true, not, ◌&&◌, ◌||◌, pos, ◌+ℤ◌, ◌-ℤ◌, ◌==◌, nat_le}
+use Rattle.std.specs.Prelude.{ℕ, ◌+◌, ◌-◌, Bool, false, not, ◌&&◌, Some, None, Option, ◌||◌, pos, ◌+ℤ◌, ◌-ℤ◌, ◌==◌, nat_le}
 use Rattle.book.specs.declared.records.Mark.{Mark}
 use Rattle.book.specs.Cells.{with_delta, with_mark, with_steps}
-use Rattle.book.specs.New.{no_mark}
 use Rattle.book.specs.Reads.{delta}
 use Rattle.checks.specs.Tests.{is_account, is_account_or_vault, is_currency, is_amount, are_apart, has_step, steps_after, in_range, is_delta}
 use Rattle.faults.specs.declared.cause.Cause.TheVariants as cause
@@ -18,27 +17,33 @@ abbrev pub vault_balance : World → ℕ → ℕ
 vault_balance w c = w.tokens.balance c 0
 
 -- the currency is marked, and the balance has not fallen since
-abbrev pub is_marked : Mark → ℕ → ℕ → Bool
-is_marked m c balance = m.set && (m.currency == c && nat_le m.balance balance)
+abbrev pub is_marked : Option Mark → ℕ → ℕ → Bool
+is_marked None c balance = false
+is_marked (Some m) c balance = m.currency == c && nat_le m.balance balance
+
+-- what came in since the mark
+abbrev pub gained : Option Mark → ℕ → ℕ
+gained None balance = 0
+gained (Some m) balance = balance - m.balance
 
 abbrev pub sync : World → ℕ → Outcome Answer
 sync w c =
     let b = w.book in
     need (is_currency w.tokens.count c) cause.Currency
     (need (has_step b.steps) cause.Steps
-    (done (answer.Amount (vault_balance w c)) (with_book w (with_steps (with_mark b (record { set = true; currency = c; balance = vault_balance w c })) (b.steps + 1)))))
+    (done (answer.Amount (vault_balance w c)) (with_book w (with_steps (with_mark b (Some (record { currency = c; balance = vault_balance w c }))) (b.steps + 1)))))
 
 -- what came in since the mark is credited
 abbrev pub settle : World → ℕ → ℕ → Outcome Answer
 settle w who c =
     let b = w.book in
-    let credit = vault_balance w c - b.mark.balance in
+    let credit = gained b.mark (vault_balance w c) in
     need (is_account who) cause.Account
     (need (is_currency w.tokens.count c) cause.Currency
     (need (has_step b.steps) cause.Steps
     (need (is_marked b.mark c (vault_balance w c)) cause.Mark
     (need (in_range (delta b who c +ℤ pos credit)) cause.Full
-    (done (answer.Amount credit) (with_book w (with_steps (with_mark (with_delta b who c (delta b who c +ℤ pos credit)) no_mark) (b.steps + 1))))))))
+    (done (answer.Amount credit) (with_book w (with_steps (with_mark (with_delta b who c (delta b who c +ℤ pos credit)) None) (b.steps + 1))))))))
 
 abbrev pub take : World → ℕ → ℕ → ℕ → ℕ → Outcome Answer
 take w who c to a =

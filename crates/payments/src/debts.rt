@@ -1,12 +1,12 @@
 // A balance marked, what came in since credited, and a credit given up.
 ghost use Rattle.std.specs.Prelude.{◌≡◌, ◌-◌, ◌≤◌, true, false, MatchResult};
 ghost use Rattle.faults.specs.declared.cause.Cause.TheVariants.{Mark as no_mark};
-ghost use Rattle.payments.specs.Payments.{sync as sync_outcome, settle as settle_outcome, clear as clear_outcome, is_marked};
+ghost use Rattle.payments.specs.Payments.{sync as sync_outcome, settle as settle_outcome, clear as clear_outcome, is_marked, gained};
 ghost use Rattle.store.specs.Outcome.{Meets};
-ghost use Rattle.store.specs.Room.{Grows};
+ghost use Rattle.store.specs.Room.{HasRoom};
 ghost use Rattle.store.specs.Saved.{world};
 
-use book::{Cell, Currency, Mark, NO_MARK};
+use book::{Cell, Currency, Mark};
 use checks::{account, amount, exactly, raised, step};
 use faults::{Cause, VaultFault};
 use hooks::HookBank;
@@ -17,32 +17,32 @@ pub fn sync<T: TokenBank, H: HookBank>(
     store: &mut Store<T, H>,
     c: u32,
 ) -> Result<Answer, VaultFault>
-    requires { store.old.len ≤ 378 }
-    ensures comes { Meets T.TokenBank.meaning H.HookBank.meaning (sync_outcome (world T.TokenBank.meaning H.HookBank.meaning store.old.held) c) store.old store.new result }
-    ensures grows { Grows store.old.len store.new.len }
+    requires { HasRoom store.old }
+    ensures { Meets T.TokenBank.meaning H.HookBank.meaning (sync_outcome (world T.TokenBank.meaning H.HookBank.meaning store.old.held) c) store.old store.new result }
 {
     let c = store.currency(c)?;
     let steps = step(store.book().steps)?;
     let balance = store.balance(c)?;
     let mark = Mark {
-        set: true,
         currency: c.number,
         balance,
     };
-    store.commit(&[Cell::Mark(mark), Cell::Steps(steps)]);
+    store.commit(&[Cell::Mark(Some(mark)), Cell::Steps(steps)]);
     Ok(Answer::Amount(balance))
 }
 
 // What came in since the mark.
-fn since(mark: Mark, c: Currency, balance: u32) -> Result<u32, Cause>
+fn since(mark: Option<Mark>, c: Currency, balance: u32) -> Result<u32, Cause>
     ensures { MatchResult result
-        (λ n. (n ≡ balance - mark.balance) × (is_marked mark c.number balance ≡ true))
+        (λ n. (n ≡ gained mark balance) × (is_marked mark c.number balance ≡ true))
         (λ f. (f ≡ no_mark) × (is_marked mark c.number balance ≡ false)) }
 {
-    if !mark.set || mark.currency != c.number || balance < mark.balance {
-        return Err(Cause::Mark);
+    match mark {
+        Some(mark) if mark.currency == c.number && mark.balance <= balance => {
+            Ok(balance - mark.balance)
+        }
+        _ => Err(Cause::Mark),
     }
-    Ok(balance - mark.balance)
 }
 
 pub fn settle<T: TokenBank, H: HookBank>(
@@ -50,9 +50,8 @@ pub fn settle<T: TokenBank, H: HookBank>(
     who: u32,
     c: u32,
 ) -> Result<Answer, VaultFault>
-    requires { store.old.len ≤ 378 }
-    ensures comes { Meets T.TokenBank.meaning H.HookBank.meaning (settle_outcome (world T.TokenBank.meaning H.HookBank.meaning store.old.held) who c) store.old store.new result }
-    ensures grows { Grows store.old.len store.new.len }
+    requires { HasRoom store.old }
+    ensures { Meets T.TokenBank.meaning H.HookBank.meaning (settle_outcome (world T.TokenBank.meaning H.HookBank.meaning store.old.held) who c) store.old store.new result }
 {
     let who = account(who)?;
     let c = store.currency(c)?;
@@ -62,7 +61,7 @@ pub fn settle<T: TokenBank, H: HookBank>(
     let delta = raised(store.book().delta(who, c), credit)?;
     store.commit(&[
         Cell::Delta(who, c, delta),
-        Cell::Mark(NO_MARK),
+        Cell::Mark(None),
         Cell::Steps(steps),
     ]);
     Ok(Answer::Amount(credit))
@@ -74,9 +73,8 @@ pub fn clear<T: TokenBank, H: HookBank>(
     c: u32,
     a: u32,
 ) -> Result<Answer, VaultFault>
-    requires { store.old.len ≤ 378 }
-    ensures comes { Meets T.TokenBank.meaning H.HookBank.meaning (clear_outcome (world T.TokenBank.meaning H.HookBank.meaning store.old.held) who c a) store.old store.new result }
-    ensures grows { Grows store.old.len store.new.len }
+    requires { HasRoom store.old }
+    ensures { Meets T.TokenBank.meaning H.HookBank.meaning (clear_outcome (world T.TokenBank.meaning H.HookBank.meaning store.old.held) who c a) store.old store.new result }
 {
     let who = account(who)?;
     let c = store.currency(c)?;

@@ -3,15 +3,15 @@ ghost use Rattle.std.specs.Prelude.{◌≡◌, ◌≤◌, true, false, MatchResu
 ghost use Rattle.payments.specs.Payments.{take as take_outcome, pay as pay_outcome};
 ghost use Rattle.tokens.specs.declared.bank.TokenFault.TheVariants.{Short as short};
 ghost use Rattle.store.specs.Outcome.{Meets};
-ghost use Rattle.store.specs.Room.{Grows};
+ghost use Rattle.store.specs.Room.{HasRoom};
 ghost use Rattle.store.specs.Saved.{world};
 
-use book::{Account, Cell};
+use book::Cell;
 use checks::{account, account_or_vault, amount, apart, lowered, step, step_in};
 use faults::VaultFault;
 use hooks::HookBank;
 use store::{Answer, Store};
-use tokens::{TokenBank, TokenFault};
+use tokens::{TokenBank, TokenFault, Transfer};
 
 // The bank's refusal of a move, found before it is made.
 fn covered(balance: u32, a: u32) -> Result<(), TokenFault>
@@ -30,9 +30,8 @@ pub fn take<T: TokenBank, H: HookBank>(
     to: u32,
     a: u32,
 ) -> Result<Answer, VaultFault>
-    requires { store.old.len ≤ 378 }
-    ensures comes { Meets T.TokenBank.meaning H.HookBank.meaning (take_outcome (world T.TokenBank.meaning H.HookBank.meaning store.old.held) who c to a) store.old store.new result }
-    ensures grows { Grows store.old.len store.new.len }
+    requires { HasRoom store.old }
+    ensures { Meets T.TokenBank.meaning H.HookBank.meaning (take_outcome (world T.TokenBank.meaning H.HookBank.meaning store.old.held) who c to a) store.old store.new result }
 {
     let who = account(who)?;
     let to = account(to)?;
@@ -42,7 +41,13 @@ pub fn take<T: TokenBank, H: HookBank>(
     covered(store.balance(c)?, a)?;
     let delta = lowered(store.book().delta(who, c), a)?;
     let cells = [Cell::Delta(who, c, delta), Cell::Steps(steps)];
-    let arrived = store.transfer_with(c, Account { number: 0 }, to, a, &cells)?;
+    let transfer = Transfer {
+        currency: c.number,
+        from: 0,
+        to: to.number,
+        amount: a,
+    };
+    let arrived = store.transfer_with(transfer, &cells)?;
     Ok(Answer::Amount(arrived))
 }
 
@@ -54,9 +59,8 @@ pub fn pay<T: TokenBank, H: HookBank>(
     to: u32,
     a: u32,
 ) -> Result<Answer, VaultFault>
-    requires { store.old.len ≤ 378 }
-    ensures comes { Meets T.TokenBank.meaning H.HookBank.meaning (pay_outcome session (world T.TokenBank.meaning H.HookBank.meaning store.old.held) who c to a) store.old store.new result }
-    ensures grows { Grows store.old.len store.new.len }
+    requires { HasRoom store.old }
+    ensures { Meets T.TokenBank.meaning H.HookBank.meaning (pay_outcome session (world T.TokenBank.meaning H.HookBank.meaning store.old.held) who c to a) store.old store.new result }
 {
     let who = account(who)?;
     let to = account_or_vault(to)?;
@@ -64,6 +68,12 @@ pub fn pay<T: TokenBank, H: HookBank>(
     amount(a)?;
     apart(who, to)?;
     let steps = step_in(session, store.book().steps)?;
-    let arrived = store.transfer_with(c, who, to, a, &[Cell::Steps(steps)])?;
+    let transfer = Transfer {
+        currency: c.number,
+        from: who.number,
+        to: to.number,
+        amount: a,
+    };
+    let arrived = store.transfer_with(transfer, &[Cell::Steps(steps)])?;
     Ok(Answer::Amount(arrived))
 }

@@ -1,4 +1,5 @@
--- What a locked vault lets through leaves it at rest, and so does the close of a session without open debts. Assumes nothing.
+-- What a locked vault lets through leaves it at rest, and so does the close of a session without open debts. Apart from the walk through
+-- all actions, which knows no phase. Assumes nothing.
 use Rattle.std.proofs.Common.{◌≡◌, ◌+◌, false, leb, pos, Ok, refl, ap, ◌∙◌, subst}
 use Rattle.std.proofs.lemmas.Bool.{true≢false}
 use Rattle.actions.specs.declared.action.Action.{Action}
@@ -6,7 +7,7 @@ use Rattle.actions.specs.declared.action.Action.TheVariants as action
 use Rattle.actions.specs.Acts.{act, acknowledged}
 use Rattle.actions.proofs.Through.{through}
 use Rattle.book.specs.Reads.{claim}
-use Rattle.book.specs.Rows.{at2}
+use Rattle.amounts.specs.Rows.{at2}
 use Rattle.checks.specs.Tests.{is_account, is_account_or_vault, is_currency, is_amount, is_amount_or_none, is_flag, are_apart, has_room}
 use Rattle.claims.specs.Claims.{has_right}
 use Rattle.store.specs.declared.answer.Answer.{Answer}
@@ -24,7 +25,7 @@ Rests (done said w) = AtRest w
 
 -- none of the parts changed
 unmoved : {w : World} (v : World) → v.book.deltas ≡ w.book.deltas → v.book.mark ≡ w.book.mark → v.book.steps ≡ w.book.steps → AtRest w → AtRest v
-unmoved v deltas mark steps r = record { settled = λ who c. ap (λ rows. at2 rows who c (pos 0)) deltas ∙ r.settled who c; unmarked = ap (λ m. m.set) mark ∙ r.unmarked; no_steps = steps ∙ r.no_steps }
+unmoved v deltas mark steps r = record { settled = λ who c. ap (λ rows. at2 rows who c (pos 0)) deltas ∙ r.settled who c; unmarked = mark ∙ r.unmarked; no_steps = steps ∙ r.no_steps }
 
 locked_rests : (w : World) (a : Action) → locked_meets a ≡ Ok tt → AtRest w → Rests (act false w a)
 locked_rests w (action.Sync c) e r = absurd (true≢false (cc e))

@@ -1,29 +1,31 @@
 -- Four times a drop, and an abandon, lead back to the opening. Assumes nothing.
-use Rattle.std.proofs.Common.{◌≡◌, ℕ, zero, suc, true, List, map, refl, arith}
-use Rattle.std.proofs.lemmas.Bool.{ltb-true}
+use Rattle.std.proofs.Common.{◌≡◌, ℕ, true, leb, List, [], ◌∷◌, length, map, Some, None, Option, refl, arith}
+use Rattle.std.proofs.lemmas.Bool.{leb-true}
+use Rattle.arrayvec.specs.ArrayVec.{ArrayVec}
 use Rattle.hooks.specs.Meaning.{Hooks}
 use Rattle.store.specs.Saved.{world, saved}
 use Rattle.store.specs.World.{World}
 use Rattle.tokens.specs.Meaning.{Tokens}
-use Rattle.vault.specs.declared.phase.Phase.{Phase}
-use Rattle.vault.specs.declared.phase.Phase.TheVariants as phase
 use Rattle.vault.specs.declared.vault.Vault.{Vault}
-use Rattle.vault.specs.Marks.{ends, nested}
+use Rattle.vault.specs.Marks.{phase_of, ends, nested}
 use Rattle.vault.specs.State.{State, state}
 use Rattle.vault.specs.Turns.{failed}
 use Rattle.runs.specs.History.{given_up}
 
-abbrev of : Phase → List ℕ → (ℕ → World) → World → State
-of p marks world now = record { phase = p; now = now; saved = map world (ends p marks) }
+abbrev of : Option (ArrayVec ℕ) → (ℕ → World) → World → State
+of frames world now = record { phase = phase_of frames; now = now; saved = map world (ends frames) }
 
-wound : (p : Phase) (marks : List ℕ) (world : ℕ → World) (now : World) → nested p ≡ true → given_up (of p marks world now) ≡ failed (of p marks world now)
-wound phase.Locked marks world now e = refl
-wound phase.Open marks world now e = refl
-wound (phase.Framed zero) marks world now e = refl
-wound (phase.Framed (suc zero)) marks world now e = refl
-wound (phase.Framed (suc (suc zero))) marks world now e = refl
-wound (phase.Framed (suc (suc (suc zero)))) marks world now e = refl
-wound (phase.Framed (suc (suc (suc (suc i))))) marks world now e = let few = ltb-true (suc (suc (suc (suc i)))) 4 e in absurd (omega (arith, few))
+wound : (marks : List ℕ) (world : ℕ → World) (now : World) → leb (length marks) 4 ≡ true → let s = of (Some (record { items = marks })) world now in given_up s ≡ failed s
+wound [] world now e = refl
+wound (a ∷ []) world now e = refl
+wound (a ∷ b ∷ []) world now e = refl
+wound (a ∷ b ∷ c ∷ []) world now e = refl
+wound (a ∷ b ∷ c ∷ d ∷ []) world now e = refl
+wound (a ∷ b ∷ c ∷ d ∷ f ∷ marks) world now e = let few = leb-true _ 4 e in absurd (omega (arith, few))
+
+any_wound : (frames : Option (ArrayVec ℕ)) (world : ℕ → World) (now : World) → nested frames ≡ true → given_up (of frames world now) ≡ failed (of frames world now)
+any_wound None world now e = refl
+any_wound (Some marks) world now e = wound marks.items world now e
 
 pub wound_up : {T H : Type 0} (tokens : T → Tokens) (hooks : H → Hooks) (v : Vault T H) → given_up (state tokens hooks v) ≡ failed (state tokens hooks v)
-wound_up tokens hooks v = wound v.phase v.marks (saved tokens hooks v.store) (world tokens hooks v.store.held) v.nested
+wound_up tokens hooks v = any_wound v.frames (saved tokens hooks v.store) (world tokens hooks v.store.held) v.nested

@@ -1,6 +1,6 @@
 -- The law on runs: what holds at every moment of every history. It is told from calls, answers and what held, and from nothing else.
 -- Assumes nothing.
-use Rattle.std.specs.Prelude.{◌≡◌, ℕ, false, cond, List, [], ◌∷◌, ℤ, pos, ◌+ℤ◌, Ok, Err, Result, ◌==◌}
+use Rattle.std.specs.Prelude.{◌≡◌, ℕ, cond, List, [], ◌∷◌, ℤ, pos, ◌+ℤ◌, None, Ok, Err, Result, ◌==◌}
 use Rattle.std.specs.List.{AllByRecursion}
 use Rattle.actions.specs.Balance.{Equation, stray_of}
 use Rattle.book.specs.Reads.{delta}
@@ -140,7 +140,7 @@ Restores acts t w = Unit
 -- between sessions no delta is open, no balance marked and no step counted
 pub record AtRest (w : World) : Type 0 where
   pub settled : (who c : ℕ) → delta w.book who c ≡ pos 0
-  pub unmarked : w.book.mark.set ≡ false
+  pub unmarked : w.book.mark ≡ None
   pub no_steps : w.book.steps ≡ 0
 
 -- from an earlier locked moment to a later one: no pool is poorer per share, since so far no call touches one

@@ -1,5 +1,6 @@
 pub mod History
 pub mod Law
-pub mod Slips
+pub mod Held
 pub mod Turned
 pub mod Played
+pub mod Texts

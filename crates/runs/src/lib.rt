@@ -1,16 +1,17 @@
 // Runs of calls on a new vault, and the law that holds of every one.
 #![tactic(auto)]
 
-mod ended;
+mod desk;
 mod ends;
 mod line;
 mod piles;
 mod playing;
 mod plays;
+mod print;
 mod slips;
 mod turns;
 
-pub use ended::Ended;
+pub use desk::Desk;
 pub use line::Line;
 pub use playing::run;
 pub use slips::{Frames, Slips};

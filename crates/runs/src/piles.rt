@@ -1,6 +1,6 @@
 // Frame slips put to the others and taken from them.
 ghost use Rattle.std.specs.Prelude.{◌≡◌, suc, ◌<◌, MatchResult};
-ghost use Rattle.runs.specs.Slips.{count};
+ghost use Rattle.runs.specs.Held.{count};
 
 use crate::slips::Frames;
 use vault::Frame;

@@ -1,28 +1,20 @@
 // One line of a run.
-ghost use Rattle.std.specs.Prelude.{◌≡◌, true};
-ghost use Rattle.runs.specs.Slips.{held};
+ghost use Rattle.std.specs.Prelude.{◌≡◌};
 ghost use Rattle.runs.specs.Turned.{Turned};
 
+use crate::desk::Desk;
 use crate::line::Line;
-use crate::slips::Slips;
-use crate::turns::turn;
 use hooks::HookBank;
 use tokens::TokenBank;
-use vault::Vault;
 
-impl Line {
-    // Makes the call and writes its reply; the slips held then are answered.
-    pub(crate) fn play<T: TokenBank, H: HookBank>(
-        &mut self,
-        vault: &mut Vault<T, H>,
-        slips: Slips,
-    ) -> Slips
-        requires { held vault.old.phase slips ≡ true }
-        ensures plays { Turned T.TokenBank.meaning H.HookBank.meaning vault.old self.old.call vault.new result self.new.reply }
-        ensures stays { self.new.call ≡ self.old.call }
+impl<T: TokenBank, H: HookBank> Desk<T, H> {
+    // Makes the call of a line and writes its reply.
+    pub(crate) fn play(self, line: &mut Line) -> Self
+        ensures plays { Turned T.TokenBank.meaning H.HookBank.meaning self.vault line.old.call result.vault line.new.reply }
+        ensures stays { line.new.call ≡ line.old.call }
     {
-        let (after, reply) = turn(vault, slips, self.call);
-        self.reply = reply;
-        after
+        let (desk, reply) = self.turn(line.call);
+        line.reply = reply;
+        desk
     }
 }

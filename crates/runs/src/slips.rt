@@ -1,7 +1,7 @@
-// The slips that a run holds, in order of giving out.
+// The slips that a desk holds, in order of giving out.
 use vault::{Frame, Session};
 
-// At most four frames are open.
+// At most four frames are open. No vector of fixed room: it asks of its elements that they may be let go, and a slip may not.
 pub enum Frames {
     None,
     One(Frame),
@@ -10,7 +10,8 @@ pub enum Frames {
     Four(Frame, Frame, Frame, Frame),
 }
 
-pub enum Slips {
-    None,
-    Held(Session, Frames),
+// The slips of a session and of the frames in it.
+pub struct Slips {
+    pub session: Session,
+    pub frames: Frames,
 }

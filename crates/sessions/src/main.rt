@@ -4,7 +4,6 @@
 mod session;
 mod stop;
 mod strays;
-mod words;
 
 use stop::Stop;
 

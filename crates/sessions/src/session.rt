@@ -1,7 +1,6 @@
 // Sessions on a plain and a levy ledger, from a new vault to a locked one.
 use crate::stop::Stop;
 use crate::strays::stray_after;
-use crate::words::{show_call, show_reply};
 use actions::Action;
 use book::Currency;
 use hooks::{Hook, HookBank};
@@ -144,14 +143,10 @@ const CALLS: [Call; 33] = [
 
 // The calls as lines, each with a place for its reply.
 fn script() -> [Line; 33] {
-    let mut lines = [Line {
-        call: Call::Open,
+    CALLS.map(|call| Line {
+        call,
         reply: Ok(Answer::Done),
-    }; 33];
-    for i in 0..33 {
-        lines[i].call = CALLS[i];
-    }
-    lines
+    })
 }
 
 // The parts of the balance equation in one currency.
@@ -181,8 +176,7 @@ pub fn show(rt: &HostRuntime) -> Result<(), Stop> {
     let vault = run(tokens, Hook::open(15)?, &mut lines).wind_up();
     println!(rt; "Sessions (currency 0 plain, currency 1 with a levy of 100 ten-thousandths)")?;
     for line in lines {
-        show_call(rt, line.call)?;
-        show_reply(rt, line.reply)?;
+        println!(rt; "  {line}")?;
     }
     for number in 0..2 {
         if let Ok(c) = vault.currency(number) {

@@ -1,4 +1,5 @@
-// Why the program stops before its end: it cannot print, or a bank was not made.
+// Why the program stops before its end: it cannot print, or a bank was not made. Each program has an enum of what it can meet, and each
+// From is written out, to state which fault came: a derived one states nothing.
 ghost use Rattle.std.specs.Prelude.{◌≡◌};
 ghost use Rattle.sessions.specs.declared.stop.Stop.TheVariants.{Print, Ledger, Hooks};
 

@@ -1,15 +1,16 @@
 // A currency's stray, told from the calls and their replies alone.
 use actions::Action;
+use arrayvec::ArrayVec;
+use faults::{Cause, VaultFault};
 use runs::Line;
 use store::Answer;
 use vault::Call;
 
-// The stray now, and at the beginning of the session and of each frame.
-#[derive(Clone, Copy)]
+// The stray now, and at the beginning of the session and of each of its up to four frames.
+#[derive(Drop)]
 struct Strays {
     now: i64,
-    begun: [i64; 5],
-    depth: usize,
+    begun: ArrayVec<i64, 5>,
 }
 
 // What an accepted action adds.
@@ -29,22 +30,22 @@ fn added(action: Action, answered: u32, currency: u32) -> i64 {
 
 impl Strays {
     fn begin(&mut self) {
-        if self.depth < 5 {
-            self.begun[self.depth] = self.now;
-            self.depth += 1;
+        if !self.begun.is_full() {
+            self.begun.push(self.now);
         }
     }
 
     fn accepted(&mut self, call: Call, answered: u32, currency: u32) {
         match call {
             Call::Open | Call::Frame => self.begin(),
-            Call::Close => self.depth = 0,
+            Call::Close => self.begun.clear(),
             Call::Abandon => self.fail(),
-            Call::Keep => self.depth = self.depth.saturating_sub(1),
+            Call::Keep => {
+                self.begun.pop();
+            }
             Call::Drop => {
-                self.depth = self.depth.saturating_sub(1);
-                if self.depth < 5 {
-                    self.now = self.begun[self.depth];
+                if let Some(begun) = self.begun.pop() {
+                    self.now = begun;
                 }
             }
             Call::Act(action) => {
@@ -55,22 +56,31 @@ impl Strays {
 
     // The session's calls stand no more.
     fn fail(&mut self) {
-        self.now = self.begun[0];
-        self.depth = 0;
+        if let Some(begun) = self.begun.first() {
+            self.now = *begun;
+        }
+        self.begun.clear();
     }
 }
 
 pub fn stray_after(start: u32, lines: &[Line], currency: u32) -> i64 {
     let mut strays = Strays {
         now: start as i64,
-        begun: [0; 5],
-        depth: 0,
+        begun: ArrayVec::new(),
     };
     for line in lines {
         match (line.call, line.reply) {
             (call, Ok(Answer::Done)) => strays.accepted(call, 0, currency),
             (call, Ok(Answer::Amount(n))) => strays.accepted(call, n, currency),
-            (Call::Close, Err(fault)) if fault.report().number == 33 => strays.fail(),
+            (
+                Call::Close,
+                Err(
+                    VaultFault {
+                        cause: Cause::DeltaOpen,
+                        ..
+                    },
+                ),
+            ) => strays.fail(),
             _ => {}
         }
     }

@@ -1,22 +1,22 @@
 // Changes that are recorded.
-ghost use Rattle.std.specs.Prelude.{◌≡◌, ◌+◌, ◌<◌, ◌≤◌, true, false, length, MatchResult};
+ghost use Rattle.std.specs.Prelude.{◌≡◌, ◌+◌, ◌<◌, ◌≤◌, true, false, length, take, MatchResult};
 ghost use Rattle.checks.specs.Tests.{is_currency};
 ghost use Rattle.faults.specs.declared.cause.Cause.TheVariants.{Currency as no_currency};
 ghost use Rattle.book.specs.Cells.{written};
 ghost use Rattle.hooks.specs.Meaning.{known_answer, told};
 ghost use Rattle.tokens.specs.Moves.{balance_answer, transfer_answer, after_transfer};
 ghost use Rattle.tokens.specs.Meaning.{moved};
-ghost use Rattle.store.specs.Saved.{world, saved, Kept, Changed};
+ghost use Rattle.store.specs.Saved.{world, recorded, saved, Kept, Changed};
 ghost use Rattle.store.specs.World.{with_book, with_tokens, with_hooks, all_written, entries};
 
 use crate::entry::Entry;
 use crate::state::Store;
-use book::{Account, Book, Cell, Currency};
+use book::{Book, Cell, Currency};
 use checks::currency;
 use faults::Cause;
-use hooks::{HookBank, HookFault};
+use hooks::{HookBank, HookFault, Passage};
 use journal::rewind;
-use tokens::{TokenBank, TokenFault};
+use tokens::{TokenBank, TokenFault, Transfer};
 
 impl<T: TokenBank, H: HookBank> Store<T, H> {
     pub fn book(&self) -> &Book
@@ -27,9 +27,9 @@ impl<T: TokenBank, H: HookBank> Store<T, H> {
 
     // How many entries the journal has.
     pub fn len(&self) -> usize
-        ensures { result ≡ self.now.len }
+        ensures { result ≡ recorded self.now }
     {
-        self.len
+        self.log.len()
     }
 
     // A currency that the token bank has.
@@ -50,18 +50,17 @@ impl<T: TokenBank, H: HookBank> Store<T, H> {
 
     // Writes a cell of the book.
     fn write(&mut self, cell: Cell)
-        requires { self.old.len < 384 }
+        requires { recorded self.old < 384 }
         ensures { Changed T.TokenBank.meaning H.HookBank.meaning self.old self.new 1
             (with_book (world T.TokenBank.meaning H.HookBank.meaning self.old.held) (written self.old.held.book cell)) }
     {
         let old = self.held.book.write(cell);
-        self.log[self.len] = Entry::Cell(old);
-        self.len += 1;
+        self.log.push(Entry::Cell(old));
     }
 
     // Writes cells of the book, one after the other.
     pub fn commit(&mut self, cells: &[Cell])
-        requires { self.old.len + length cells.now ≤ 384 }
+        requires { recorded self.old + length cells.now ≤ 384 }
         ensures { Changed T.TokenBank.meaning H.HookBank.meaning self.old self.new (length cells.now)
             (with_book (world T.TokenBank.meaning H.HookBank.meaning self.old.held) (all_written self.old.held.book cells.now)) }
     {
@@ -71,71 +70,54 @@ impl<T: TokenBank, H: HookBank> Store<T, H> {
     }
 
     // Moves tokens; a refused move records nothing.
-    pub fn transfer(
-        &mut self,
-        currency: u32,
-        from: u32,
-        to: u32,
-        amount: u32,
-    ) -> Result<u32, TokenFault>
-        requires { self.old.len < 384 }
-        ensures answers { result ≡ transfer_answer (T.TokenBank.meaning self.old.held.tokens) currency from to amount }
+    pub fn transfer(&mut self, t: Transfer) -> Result<u32, TokenFault>
+        requires { recorded self.old < 384 }
+        ensures answers { result ≡ transfer_answer (T.TokenBank.meaning self.old.held.tokens) t.currency t.from t.to t.amount }
         ensures leaves { Changed T.TokenBank.meaning H.HookBank.meaning self.old self.new (entries result)
-            (with_tokens (world T.TokenBank.meaning H.HookBank.meaning self.old.held) (after_transfer (T.TokenBank.meaning self.old.held.tokens) currency from to amount)) }
+            (with_tokens (world T.TokenBank.meaning H.HookBank.meaning self.old.held) (after_transfer (T.TokenBank.meaning self.old.held.tokens) t.currency t.from t.to t.amount)) }
     {
-        let arrived = self.held.tokens.transfer(currency, from, to, amount)?;
-        self.log[self.len] = Entry::Move(currency, from, to, amount);
-        self.len += 1;
+        let arrived = self.held.tokens.transfer(t)?;
+        self.log.push(Entry::Move(t));
         Ok(arrived)
     }
 
     // Moves tokens and writes cells; where the move is refused, neither.
-    pub fn transfer_with(
-        &mut self,
-        currency: Currency,
-        from: Account,
-        to: Account,
-        amount: u32,
-        cells: &[Cell],
-    ) -> Result<u32, TokenFault>
-        requires { self.old.len + 1 + length cells.now ≤ 384 }
-        ensures answers { result ≡ transfer_answer (T.TokenBank.meaning self.old.held.tokens) currency.number from.number to.number amount }
+    pub fn transfer_with(&mut self, t: Transfer, cells: &[Cell]) -> Result<u32, TokenFault>
+        requires { recorded self.old + 1 + length cells.now ≤ 384 }
+        ensures answers { result ≡ transfer_answer (T.TokenBank.meaning self.old.held.tokens) t.currency t.from t.to t.amount }
         ensures leaves { MatchResult result
             (λ _. Changed T.TokenBank.meaning H.HookBank.meaning self.old self.new (1 + length cells.now)
-            (with_book (with_tokens (world T.TokenBank.meaning H.HookBank.meaning self.old.held) (moved (T.TokenBank.meaning self.old.held.tokens) currency.number from.number to.number amount)) (all_written self.old.held.book cells.now)))
+            (with_book (with_tokens (world T.TokenBank.meaning H.HookBank.meaning self.old.held) (moved (T.TokenBank.meaning self.old.held.tokens) t.currency t.from t.to t.amount)) (all_written self.old.held.book cells.now)))
             (λ _. Changed T.TokenBank.meaning H.HookBank.meaning self.old self.new 0 (world T.TokenBank.meaning H.HookBank.meaning self.old.held)) }
     {
-        let arrived = self.transfer(currency.number, from.number, to.number, amount)?;
+        let arrived = self.transfer(t)?;
         self.commit(cells);
         Ok(arrived)
     }
 
     // Tells a hook; an unknown hook is refused, and nothing is recorded.
-    pub fn tell(&mut self, hook: u32, input: u32, output: u32) -> Result<(), HookFault>
-        requires { self.old.len < 384 }
-        ensures answers { result ≡ known_answer (H.HookBank.meaning self.old.held.hooks) hook }
+    pub fn tell(&mut self, p: Passage) -> Result<(), HookFault>
+        requires { recorded self.old < 384 }
+        ensures answers { result ≡ known_answer (H.HookBank.meaning self.old.held.hooks) p.hook }
         ensures leaves { Changed T.TokenBank.meaning H.HookBank.meaning self.old self.new (entries result)
-            (with_hooks (world T.TokenBank.meaning H.HookBank.meaning self.old.held) (told (H.HookBank.meaning self.old.held.hooks) hook input output)) }
+            (with_hooks (world T.TokenBank.meaning H.HookBank.meaning self.old.held) (told (H.HookBank.meaning self.old.held.hooks) p.hook p.input p.output)) }
     {
-        let old = self.held.hooks.number(hook)?;
-        self.held.hooks.tell(hook, input, output)?;
-        self.log[self.len] = Entry::Number(hook, old);
-        self.len += 1;
+        let old = self.held.hooks.number(p.hook)?;
+        self.held.hooks.tell(p)?;
+        self.log.push(Entry::Number(p.hook, old));
         Ok(())
     }
 
     // Restores what held when the journal had n entries.
     pub fn rewind_to(&mut self, n: usize)
-        requires { n ≤ self.old.len }
+        requires { n ≤ recorded self.old }
         ensures now { world T.TokenBank.meaning H.HookBank.meaning self.new.held ≡ saved T.TokenBank.meaning H.HookBank.meaning self.old n }
-        ensures shorter { self.new.len ≡ n }
-        ensures log { self.new.log ≡ self.old.log }
+        ensures shorter { recorded self.new ≡ n }
+        ensures log { self.new.log.items ≡ take n self.old.log.items }
         ensures kept { Kept T.TokenBank.meaning H.HookBank.meaning self.old self.new n }
     {
-        let len = self.len;
-        let log = &self.log;
-        let part = &log[n..len];
-        rewind(&mut self.held, part);
-        self.len = n;
+        let later = &self.log.as_slice()[n..];
+        rewind(&mut self.held, later);
+        self.log.truncate(n);
     }
 }

@@ -1,12 +1,19 @@
 // What one change took the place of.
 use book::Cell;
+use tokens::Transfer;
 
 #[derive(Clone, Copy)]
 pub enum Entry {
     // a cell of the book with its old value
     Cell(Cell),
-    // a token move: currency, from, to and amount
-    Move(u32, u32, u32, u32),
+    Move(Transfer),
     // a hook and its old number
     Number(u32, u32),
+}
+
+// What stands in the free places of a journal: written out, since a derived default is of a variant that holds nothing.
+impl Default for Entry {
+    fn default() -> Entry {
+        Entry::Number(0, 0)
+    }
 }

@@ -5,6 +5,7 @@ mod answer;
 mod changes;
 mod entry;
 mod new;
+mod print;
 mod state;
 mod undo;
 

@@ -1,7 +1,6 @@
 // All that a restore gives back, and the journal by which it does.
-ghost use Rattle.std.specs.Prelude.{◌≡◌, ◌≤◌, length};
-
 use crate::entry::Entry;
+use arrayvec::ArrayVec;
 use book::Book;
 
 #[derive(Drop)]
@@ -11,12 +10,10 @@ pub struct Held<T, H> {
     pub(crate) hooks: H,
 }
 
-// Entries lie in order of writing; those from `len` on are free.
+// The journal's entries lie in order of writing. No model stands for a store in clauses: what banks mean are functions, and a model's
+// value must be data.
 #[derive(Drop)]
 pub struct Store<T, H> {
     pub(crate) held: Held<T, H>,
-    pub(crate) log: [Entry; 384],
-    pub(crate) len: usize,
-    ghost room: { len ≤ 384 },
-    ghost sized: { length log ≡ 384 },
+    pub(crate) log: ArrayVec<Entry, 384>,
 }

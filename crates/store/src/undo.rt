@@ -20,8 +20,8 @@ impl<T: TokenBank, H: HookBank> Undo<Entry> for Held<T, H> {
             Entry::Cell(cell) => {
                 let _ = self.book.write(cell);
             }
-            Entry::Move(c, from, to, a) => {
-                let _ = self.tokens.unmove(c, from, to, a);
+            Entry::Move(transfer) => {
+                let _ = self.tokens.unmove(transfer);
             }
             Entry::Number(h, n) => {
                 let _ = self.hooks.set(h, n);

@@ -7,3 +7,4 @@ pub mod Pairs
 pub mod Laws
 pub mod Shifts
 pub mod Sums
+pub mod Texts

@@ -20,14 +20,12 @@ total t c = sum_below 16 (t.balance c) + t.pot c
 -- in currency c the payer falls, the payee rises, and the pot is a new one; all else stays
 abbrev pub shifted : Tokens → ℕ → ℕ → ℕ → ℕ → ℕ → ℕ → Tokens
 shifted t c payer fall payee rise pot =
-    record {
-      count = t.count;
+    record t {
       balance = λ d b.
           cond (d == c)
           (cond (b == payee) (t.balance c payee + rise) (cond (b == payer) (t.balance c payer - fall) (t.balance d b)))
           (t.balance d b);
       pot = λ d. cond (d == c) pot (t.pot d);
-      arrives = t.arrives;
     }
 
 -- from falls by a, to rises by what arrives, and the pot by the rest

@@ -1,22 +1,15 @@
 -- Token banks side by side: a shift in one of them is one of the pair. Assumes nothing.
-use Rattle.std.specs.Prelude.{◌≡◌, ℕ, ◌+◌, ◌-◌, ◌<◌, ◌≤◌, cond, Ok, Err, Result, refl}
-use Rattle.std.proofs.Common.{sym, ap, ◌∙◌, arith}
-use Rattle.std.proofs.lemmas.Bool.{le-ltb}
+use Rattle.std.specs.Prelude.{◌≡◌, ℕ, ◌+◌, ◌-◌, Some, Ok, Err, Result, refl}
+use Rattle.std.proofs.Common.{ap, ◌∙◌, arith}
 use Rattle.std.proofs.lemmas.Bool.Decides.{nat_tests}
-use Rattle.amounts.proofs.Pairs.{by_side, split_has}
 use Rattle.amounts.specs.Pair.{place}
 use Rattle.amounts.specs.declared.pair.Place.TheVariants.{Second}
-use Rattle.amounts.specs.Rounding.{most}
 use Rattle.tokens.specs.declared.bank.TokenFault.{TokenFault}
 use Rattle.tokens.specs.Beside.{beside}
-use Rattle.tokens.specs.Meaning.{Tokens, sum_below, shifted}
+use Rattle.tokens.specs.Meaning.{Tokens, shifted}
 use Rattle.tokens.specs.Moves.{Lawful, after, transfer_answer, after_transfer, unmove_answer, after_unmove}
 use Rattle.tokens.specs.Laws.{lawful_from}
 use Rattle.tokens.specs.Shifts.{same_tokens}
-
--- a shift in the second bank is one of the pair
-second_shifted : (a b : Tokens) (c payer fall payee rise pot : ℕ) → a.count ≤ c → beside a (shifted b (c - a.count) payer fall payee rise pot) ≡ shifted (beside a b) c payer fall payee rise pot
-second_shifted a b c payer fall payee rise pot h = same_tokens _ _ refl (λ d e. grind (arith, nat_tests)) (λ d. grind (arith, nat_tests)) (λ d e. refl)
 
 -- where two calls answer the same, what follows from either is seen alike by the pair
 alike : {X : Type 0} (r s : Result X TokenFault) (a new old news : Tokens) → r ≡ s → beside a new ≡ news → beside a (after r new old) ≡ after s news (beside a old)
@@ -24,24 +17,15 @@ alike (Ok x) s a new old news e same = same ∙ ap (λ r. after r news (beside a
 alike (Err x) s a new old news e same = ap (λ r. after r news (beside a old)) e
 
 -- a transfer or an unmove in the second bank is one of the pair
-module _ (a b : Tokens) (c k from to n : ℕ) (second : Second k ≡ place 8 a.count c) where
-  past : a.count ≤ c
-  past = grind (arith, nat_tests)
-
-  low : c < 8
-  low = grind (arith, nat_tests)
-
-  less : c - a.count ≡ k
-  less = grind (arith, nat_tests)
-
+module _ (a b : Tokens) (c k from to n : ℕ) (second : Some (Second k) ≡ place 8 a.count c) where
   arrives : (beside a b).arrives c n ≡ b.arrives k n
-  arrives = let h = past in ap (λ t. cond t (a.arrives c) (b.arrives (c - a.count)) n) (le-ltb c a.count h) ∙ ap (λ m. b.arrives m n) less
+  arrives = grind (arith, nat_tests)
 
   pot : (beside a b).pot c ≡ b.pot k
-  pot = let h = past in ap (λ t. cond t (a.pot c) (b.pot (c - a.count))) (le-ltb c a.count h) ∙ ap b.pot less
+  pot = grind (arith, nat_tests)
 
   shifts : (payer fall payee rise m : ℕ) → beside a (shifted b k payer fall payee rise m) ≡ shifted (beside a b) c payer fall payee rise m
-  shifts payer fall payee rise m = ap (λ i. beside a (shifted b i payer fall payee rise m)) (sym less) ∙ second_shifted a b c payer fall payee rise m past
+  shifts payer fall payee rise m = same_tokens _ _ refl (λ d e. grind (arith, nat_tests)) (λ d. grind (arith, nat_tests)) (λ d e. refl)
 
   pub transfers_as_second : (transfer_answer b k from to n ≡ transfer_answer (beside a b) c from to n) × (beside a (after_transfer b k from to n) ≡ after_transfer (beside a b) c from to n)
   transfers_as_second =
@@ -59,8 +43,5 @@ module _ (a b : Tokens) (c k from to n : ℕ) (second : Second k ≡ place 8 a.c
 pub beside_lawful : (a b : Tokens) → Lawful a → Lawful b → Lawful (beside a b)
 beside_lawful a b la lb =
     lawful_from (beside a b) (grind (arith, nat_tests))
-    (λ c n. split_has (λ f. f n ≤ n) a.count a.arrives b.arrives c (λ _. la.within c n) (λ _. lb.within (c - a.count) n))
-    (λ c known.
-    by_side (λ t. sum_below 16 (cond t (a.balance c) (b.balance (c - a.count))) + cond t (a.pot c) (b.pot (c - a.count)) ≤ most) a.count c
-    (λ here. la.bounded c here)
-    (λ there. lb.bounded (c - a.count) (grind (arith, nat_tests))))
+    (λ c n. let f = la.within c n in let s = lb.within (c - a.count) n in grind (arith, nat_tests))
+    (λ c known. let f = la.bounded c in let s = lb.bounded (c - a.count) in grind (arith, nat_tests))

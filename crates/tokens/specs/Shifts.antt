@@ -3,8 +3,9 @@ use Rattle.std.specs.Prelude.{◌≡◌, ℕ, ◌+◌, ◌-◌, ◌<◌, ◌≤�
 use Rattle.std.proofs.Common.{ap, arith, ⊎_elim}
 use Rattle.std.proofs.lemmas.Bool.{cases_eq}
 use Rattle.std.proofs.lemmas.Bool.Decides.{nat_tests}
+use Rattle.amounts.specs.Rows.{at}
 use Rattle.tokens.specs.Meaning.{Tokens, sum_below, total, shifted}
-use Rattle.tokens.specs.Sums.{sum_same, sum_at, at}
+use Rattle.tokens.specs.Sums.{sum_same, sum_at}
 
 pub same_tokens : (t u : Tokens) → t.count ≡ u.count → ((d b : ℕ) → t.balance d b ≡ u.balance d b) → ((d : ℕ) → t.pot d ≡ u.pot d) → ((d a : ℕ) → t.arrives d a ≡ u.arrives d a) → t ≡ u
 same_tokens t u count balance pot arrives = λ i. record { count = count i; balance = λ d b. balance d b i; pot = λ d. pot d i; arrives = λ d a. arrives d a i }

@@ -1,8 +1,8 @@
 -- Sums of the first values of a function, and what a change at one or two places does to them. Assumes nothing.
-use Rattle.std.specs.Prelude.{◌≡◌, ℕ, zero, suc, ◌+◌, ◌<◌, ◌≤◌, cond, ◌==◌, ◌≢◌, refl}
-use Rattle.std.proofs.Common.{ap, ⊎_elim, arith}
-use Rattle.std.proofs.lemmas.Bool.{cases_eq}
+use Rattle.std.specs.Prelude.{◌≡◌, ℕ, zero, suc, ◌+◌, ◌<◌, ◌≤◌, ◌≢◌, refl}
+use Rattle.std.proofs.Common.{arith}
 use Rattle.std.proofs.lemmas.Bool.Decides.{nat_tests}
+use Rattle.amounts.specs.Rows.{at}
 use Rattle.tokens.specs.Meaning.{sum_below}
 
 pub sum_none : (f : ℕ → ℕ) → sum_below 0 f ≡ 0
@@ -18,24 +18,13 @@ unfolding sum_below
 sum_same zero f g e = refl
 sum_same (suc n) f g e = let h = sum_same n f g (λ k l. e k (omega arith)) in omega (arith, h, e n (omega arith))
 
--- another value at one place
-abbrev pub at : (ℕ → ℕ) → ℕ → ℕ → ℕ → ℕ
-at f i v k = cond (k == i) v (f k)
-
 pub sum_at : (n : ℕ) (f : ℕ → ℕ) (i v : ℕ) → i < n → sum_below n (at f i v) + f i ≡ sum_below n f + v
 unfolding sum_below
 sum_at zero f i v h = absurd (omega arith)
 sum_at (suc n) f i v h =
-    ⊎_elim
-    (λ (e : i ≡ n).
-    let rest : sum_below n (at f i v) ≡ sum_below n f = sum_same n (at f i v) f (λ k l. grind (arith, nat_tests)) in
-    let here : at f i v n ≡ v = grind (arith, nat_tests) in
-    omega (arith, rest, here, ap f e))
-    (λ (ne : i ≡ n → ⊥).
-    let below : i < n = omega arith in
-    let here : at f i v n ≡ f n = grind (arith, nat_tests) in
-    omega (arith, sum_at n f i v below, here))
-    (cases_eq i n)
+    let past = sum_same n (at f n v) f (λ k l. grind (arith, nat_tests)) in
+    let below = sum_at n f i v in
+    grind (arith, nat_tests)
 
 pub part_of_sum : (n : ℕ) (f : ℕ → ℕ) (i : ℕ) → i < n → f i ≤ sum_below n f
 part_of_sum n f i h = omega (arith, sum_at n f i 0 h)

@@ -3,6 +3,8 @@ ghost use Rattle.std.specs.Prelude.{◌≡◌};
 ghost use Rattle.tokens.specs.Meaning.{Tokens};
 ghost use Rattle.tokens.specs.Moves.{Lawful, balance_answer, transfer_answer, after_transfer, unmove_answer, after_unmove};
 
+use crate::transfer::Transfer;
+
 #[derive(Clone, Copy)]
 pub enum TokenFault {
     UnknownCurrency,
@@ -21,21 +23,15 @@ pub trait TokenBank {
     fn balance(&self, currency: u32, account: u32) -> Result<u32, TokenFault>
         ensures { result ≡ balance_answer (meaning self.now) currency account };
 
-    // Moves an amount from one account to another, and answers what arrived.
-    fn transfer(
-        &mut self,
-        currency: u32,
-        from: u32,
-        to: u32,
-        amount: u32,
-    ) -> Result<u32, TokenFault>
-        ensures answers { result ≡ transfer_answer (meaning self.old) currency from to amount }
-        ensures leaves { meaning self.new ≡ after_transfer (meaning self.old) currency from to amount };
+    // Moves the amount, and answers what arrived.
+    fn transfer(&mut self, t: Transfer) -> Result<u32, TokenFault>
+        ensures answers { result ≡ transfer_answer (meaning self.old) t.currency t.from t.to t.amount }
+        ensures leaves { meaning self.new ≡ after_transfer (meaning self.old) t.currency t.from t.to t.amount };
 
-    // Takes back a move of the same four.
-    fn unmove(&mut self, currency: u32, from: u32, to: u32, amount: u32) -> Result<(), TokenFault>
-        ensures answers { result ≡ unmove_answer (meaning self.old) currency from to amount }
-        ensures leaves { meaning self.new ≡ after_unmove (meaning self.old) currency from to amount };
+    // Takes back the same transfer.
+    fn unmove(&mut self, t: Transfer) -> Result<(), TokenFault>
+        ensures answers { result ≡ unmove_answer (meaning self.old) t.currency t.from t.to t.amount }
+        ensures leaves { meaning self.new ≡ after_unmove (meaning self.old) t.currency t.from t.to t.amount };
 
     ghost lawful: { (s : Self) → Lawful (meaning s) };
 }

@@ -3,14 +3,17 @@
 
 mod bank;
 mod beside;
-mod checks;
 mod ledger;
 mod moves;
 mod opening;
 mod report;
+mod supply;
+mod texts;
+mod transfer;
 
+pub use amounts::Beside;
 pub use bank::{TokenBank, TokenFault};
-pub use beside::Beside;
 pub use ledger::Ledger;
 pub use opening::OpeningFault;
 pub use report::circulating;
+pub use transfer::Transfer;

@@ -7,8 +7,8 @@ ghost use Rattle.std.proofs.Common.{arith};
 ghost use Rattle.tokens.specs.Laws.{lawful_from};
 
 use crate::bank::{TokenBank, TokenFault};
-use crate::checks::check_numbers;
 use crate::ledger::Ledger;
+use crate::transfer::Transfer;
 
 impl Ledger {
     // What arrives of an amount.
@@ -21,20 +21,19 @@ impl Ledger {
 
     // One account falls, another rises, and the pot is a new one, so that there is as much of the currency as before.
     fn shift(&mut self, c: usize, payer: usize, fall: u32, payee: usize, rise: u32, pot: u64)
-        requires { Shift self.old.count self.old.rows self.old.pots c payer fall payee rise pot }
-        ensures { ledger self.new.count self.new.rows self.new.pots self.new.rate.parts
-            ≡ shifted (ledger self.old.count self.old.rows self.old.pots self.old.rate.parts) c payer fall payee rise pot }
+        requires { Shift self.old.count self.old.supplies c payer fall payee rise pot }
+        ensures { ledger self.new.count self.new.supplies self.new.rate.parts
+            ≡ shifted (ledger self.old.count self.old.supplies self.old.rate.parts) c payer fall payee rise pot }
     {
-        let before = self.rows[c][payer];
-        let there = self.rows[c][payee];
-        self.rows[c][payer] = before - fall;
-        self.rows[c][payee] = there + rise;
-        self.pots[c] = pot as u32;
+        let supply = &mut self.supplies[c];
+        supply.held[payer] -= fall;
+        supply.held[payee] += rise;
+        supply.pot = pot as u32;
     }
 }
 
 impl TokenBank for Ledger {
-    ghost meaning = { λ s. ledger s.count s.rows s.pots s.rate.parts };
+    ghost meaning = { λ s. ledger s.count s.supplies s.rate.parts };
 
     ghost lawful = { λ s. lawful_from _ s.few (λ c a. omega arith) s.bounded };
 
@@ -49,37 +48,31 @@ impl TokenBank for Ledger {
         if account >= 16 {
             return Err(TokenFault::UnknownAccount);
         }
-        Ok(self.rows[currency as usize][account as usize])
+        Ok(self.supplies[currency as usize].held[account as usize])
     }
 
-    fn transfer(
-        &mut self,
-        currency: u32,
-        from: u32,
-        to: u32,
-        amount: u32,
-    ) -> Result<u32, TokenFault> {
-        check_numbers(self.count, currency, from, to, amount)?;
-        let c = currency as usize;
-        if amount > self.rows[c][from as usize] {
+    fn transfer(&mut self, t: Transfer) -> Result<u32, TokenFault> {
+        t.check(self.count)?;
+        let c = t.currency as usize;
+        if t.amount > self.supplies[c].held[t.from as usize] {
             return Err(TokenFault::Short);
         }
-        let arrived = self.arriving(amount);
-        let pot = self.pots[c] as u64 + (amount - arrived) as u64;
-        self.shift(c, from as usize, amount, to as usize, arrived, pot);
+        let arrived = self.arriving(t.amount);
+        let pot = self.supplies[c].pot as u64 + (t.amount - arrived) as u64;
+        self.shift(c, t.from as usize, t.amount, t.to as usize, arrived, pot);
         Ok(arrived)
     }
 
-    fn unmove(&mut self, currency: u32, from: u32, to: u32, amount: u32) -> Result<(), TokenFault> {
-        check_numbers(self.count, currency, from, to, amount)?;
-        let c = currency as usize;
-        let arrived = self.arriving(amount);
-        let rest = amount - arrived;
-        if arrived > self.rows[c][to as usize] || rest > self.pots[c] {
+    fn unmove(&mut self, t: Transfer) -> Result<(), TokenFault> {
+        t.check(self.count)?;
+        let c = t.currency as usize;
+        let arrived = self.arriving(t.amount);
+        let rest = t.amount - arrived;
+        if arrived > self.supplies[c].held[t.to as usize] || rest > self.supplies[c].pot {
             return Err(TokenFault::Short);
         }
-        let pot = (self.pots[c] - rest) as u64;
-        self.shift(c, to as usize, arrived, from as usize, amount, pot);
+        let pot = (self.supplies[c].pot - rest) as u64;
+        self.shift(c, t.to as usize, arrived, t.from as usize, t.amount, pot);
         Ok(())
     }
 }

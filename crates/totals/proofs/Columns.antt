@@ -1,14 +1,12 @@
 -- What a changed cell does to the sum down its column and to no other, and the sums of a new book. Assumes nothing.
-use Rattle.std.proofs.Common.{◌≡◌, ℕ, zero, suc, ◌+◌, ◌<◌, Bool, true, false, cond, eqb, List, [], ◌∷◌, length, get_or, set, replicate, ℤ, pos, ◌+ℤ◌, ◌-ℤ◌, fold, sum_by, count_by, sym, refl, ap, ◌∙◌, subst, ⊎_elim, le_of_suc-le-suc, not-suc-le-zero, arith}
+use Rattle.std.proofs.Common.{◌≡◌, ℕ, zero, suc, ◌+◌, ◌<◌, cond, eqb, None, List, [], ◌∷◌, length, get_or, set, replicate, ℤ, pos, ◌+ℤ◌, ◌-ℤ◌, fold, sum_by, count_by, refl, ap, ◌∙◌, le_of_suc-le-suc, not-suc-le-zero, arith}
 use Rattle.std.proofs.lemmas.List.{get_or-set_same, get_or-set_other}
 use Rattle.std.proofs.lemmas.Int.{ints}
 use Rattle.std.proofs.lemmas.List.Sums.{sum_by-cons, sum_by-set}
-use Rattle.std.proofs.lemmas.Bool.{eq-eqb, ne_eqb, cases_eq}
 use Rattle.std.proofs.lemmas.Bool.Decides.{nat_tests}
-use Rattle.book.specs.Cells.{no_pool}
 use Rattle.book.specs.New.{new_book}
 use Rattle.book.specs.Reads.{delta}
-use Rattle.book.specs.Rows.{at2, put2}
+use Rattle.amounts.specs.Rows.{at2, put2}
 use Rattle.totals.specs.Totals.{held, pools_in, claims_in, column, deltas_in, is_open}
 
 -- the signed sum of f over a list, from z on
@@ -25,43 +23,12 @@ signed_set f z [] i y d h = absurd (not-suc-le-zero h)
 signed_set f z (x ∷ xs) zero y d h = ap (λ n. signed f n xs) (omega (arith, ints)) ∙ signed_from f (z +ℤ f x) (f y -ℤ f x) xs
 signed_set f z (x ∷ xs) (suc i) y d h = signed_set f (z +ℤ f x) xs i y d (le_of_suc-le-suc h)
 
-module _ (rows : List (List ℕ)) (i j v : ℕ) (h : i < length rows) where
-  pub claims_same : j < length (get_or rows i []) → sum_by (λ r. get_or r j 0) (put2 rows i j v) + at2 rows i j 0 ≡ sum_by (λ r. get_or r j 0) rows + v
-  claims_same k = sum_by-set (λ r. get_or r j 0) rows i (set (get_or rows i []) j v) [] h ∙ ap (λ n. sum_by (λ r. get_or r j 0) rows + n) (get_or-set_same (get_or rows i []) j v 0 k)
-
-  pub claims_other : (c : ℕ) → (c ≡ j → ⊥) → sum_by (λ r. get_or r c 0) (put2 rows i j v) ≡ sum_by (λ r. get_or r c 0) rows
-  claims_other c ne = omega (arith, sum_by-set (λ r. get_or r c 0) rows i (set (get_or rows i []) j v) [] h, get_or-set_other (get_or rows i []) j c v 0 ne)
-
-module _ (rows : List (List ℤ)) (i j : ℕ) (v : ℤ) (h : i < length rows) where
-  changed : (c : ℕ) → column (put2 rows i j v) c ≡ column rows c +ℤ (get_or (set (get_or rows i []) j v) c (pos 0) -ℤ at2 rows i c (pos 0))
-  changed c = signed_set (λ r. get_or r c (pos 0)) (pos 0) rows i (set (get_or rows i []) j v) [] h
-
-  pub deltas_same : j < length (get_or rows i []) → column (put2 rows i j v) j ≡ column rows j +ℤ (v -ℤ at2 rows i j (pos 0))
-  deltas_same k = changed j ∙ ap (λ n. column rows j +ℤ (n -ℤ at2 rows i j (pos 0))) (get_or-set_same (get_or rows i []) j v (pos 0) k)
-
-  pub deltas_other : (c : ℕ) → (c ≡ j → ⊥) → column (put2 rows i j v) c ≡ column rows c
-  deltas_other c ne = changed c ∙ ap (λ n. column rows c +ℤ (n -ℤ at2 rows i c (pos 0))) (get_or-set_other (get_or rows i []) j c v (pos 0) ne) ∙ omega (arith, ints)
-
--- by whether a column is the one that was changed
-pub by_column : (P : ℕ → Bool → Type 0) (j c : ℕ) → P j true → ((c ≡ j → ⊥) → P c false) → P c (eqb j c)
-by_column P j c here elsewhere =
-    ⊎_elim
-    (λ (e : c ≡ j). subst (λ k. P k (eqb j k)) (sym e) (subst (P j) (sym (eq-eqb j j refl)) here))
-    (λ (ne : c ≡ j → ⊥). subst (P c) (sym (ne_eqb j c (λ e. ne (sym e)))) (elsewhere ne))
-    (cases_eq c j)
-
--- the same for every column
+-- what a changed cell of claims, and of deltas, does to every column
 pub claims_put : (rows : List (List ℕ)) (i j v : ℕ) → i < length rows → j < length (get_or rows i []) → (c : ℕ) → pos (sum_by (λ r. get_or r c 0) (put2 rows i j v)) ≡ pos (sum_by (λ r. get_or r c 0) rows) +ℤ cond (eqb j c) (pos v -ℤ pos (at2 rows i j 0)) (pos 0)
-claims_put rows i j v h k c =
-    by_column (λ c t. pos (sum_by (λ r. get_or r c 0) (put2 rows i j v)) ≡ pos (sum_by (λ r. get_or r c 0) rows) +ℤ cond t (pos v -ℤ pos (at2 rows i j 0)) (pos 0)) j c
-    (omega (arith, ints, claims_same rows i j v h k))
-    (λ ne. omega (arith, ints, claims_other rows i j v h c ne))
+claims_put rows i j v h k c = let sum = sum_by-set (λ r. get_or r c 0) rows i (set (get_or rows i []) j v) [] h in grind (arith, ints, nat_tests, get_or-set_same, get_or-set_other)
 
 pub deltas_put : (rows : List (List ℤ)) (i j : ℕ) (v : ℤ) → i < length rows → j < length (get_or rows i []) → (c : ℕ) → column (put2 rows i j v) c ≡ column rows c +ℤ cond (eqb j c) (v -ℤ at2 rows i j (pos 0)) (pos 0)
-deltas_put rows i j v h k c =
-    by_column (λ c t. column (put2 rows i j v) c ≡ column rows c +ℤ cond t (v -ℤ at2 rows i j (pos 0)) (pos 0)) j c
-    (deltas_same rows i j v h k)
-    (λ ne. deltas_other rows i j v h c ne ∙ omega (arith, ints))
+deltas_put rows i j v h k c = let sum = signed_set (λ r. get_or r c (pos 0)) (pos 0) rows i (set (get_or rows i []) j v) [] h in grind (arith, ints, nat_tests, get_or-set_same, get_or-set_other)
 
 -- no part of a sum that is 0 is more than 0
 no_part : {X : Type 0} (f : X → ℕ) (d : X) → f d ≡ 0 → (xs : List X) → sum_by f xs ≡ 0 → (i : ℕ) → f (get_or xs i d) ≡ 0
@@ -92,7 +59,7 @@ still f y x e zero = refl
 still f y x e (suc n) = ap (λ z. fold f z (replicate n x)) e ∙ still f y x e n
 
 pub new_pools : (c : ℕ) → pools_in new_book c ≡ 0
-new_pools c = still (λ a p. a + held p c) 0 no_pool (grind (arith, nat_tests)) 8
+new_pools c = still (λ a p. a + held p c) 0 None refl 8
 
 pub new_claims : (c : ℕ) → claims_in new_book c ≡ 0
 new_claims c = still (λ a (r : List ℕ). a + get_or r c 0) 0 (replicate 8 0) (read (λ n. 0 + n ≡ 0) 0 0 refl refl 8 c) 16

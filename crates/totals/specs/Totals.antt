@@ -1,11 +1,12 @@
 -- What a book holds of a currency, all records and rows together, and how many debts are open. Assumes nothing.
-use Rattle.std.specs.Prelude.{ℕ, ◌+◌, Bool, cond, not, ◌&&◌, List, ℤ, pos, ◌+ℤ◌, fold, sum_by, count_by, ◌==◌, int_le, slice_index, slice_index_or}
+use Rattle.std.specs.Prelude.{ℕ, ◌+◌, Bool, cond, not, ◌&&◌, List, ℤ, pos, ◌+ℤ◌, Some, None, Option, fold, sum_by, count_by, ◌==◌, int_le, slice_index, slice_index_or}
 use Rattle.book.specs.declared.records.Book.{Book}
 use Rattle.book.specs.declared.records.Pool.{Pool}
 
 -- what one pool holds of a currency
-abbrev pub held : Pool → ℕ → ℕ
-held p c = cond (p.c0 == c) p.x 0 + cond (p.c1 == c) p.y 0
+abbrev pub held : Option Pool → ℕ → ℕ
+held None c = 0
+held (Some p) c = cond (p.c0 == c) p.x 0 + cond (p.c1 == c) p.y 0
 
 abbrev pub pools_in : Book → ℕ → ℕ
 pools_in b c = sum_by (λ p. held p c) b.pools.rows

@@ -4,7 +4,7 @@ use Rattle.std.proofs.lemmas.Bool.{and_parts, and_from, leb-true, le-leb}
 use Rattle.hooks.specs.Meaning.{Hooks}
 use Rattle.store.specs.declared.state.Store.{Store}
 use Rattle.store.specs.Room.{steps_at}
-use Rattle.store.specs.Saved.{saved, Kept}
+use Rattle.store.specs.Saved.{recorded, saved, Kept}
 use Rattle.store.proofs.Rooms.{saved_steps}
 use Rattle.tokens.specs.Meaning.{Tokens}
 use Rattle.vault.specs.Marks.{fits, all_fit}
@@ -59,5 +59,5 @@ module _ {T H : Type 0} where
         ap (λ w. w ∷ map (saved tokens hooks b) ms) (kept m (omega arith)) ∙ ap (λ ws. saved tokens hooks a m ∷ ws) (same_worlds n m ms kept (omega arith) (and_parts _ _ parts.1).1)
 
     -- the journal is back at a mark
-    pub back_fit : (top m : ℕ) (ms : List ℕ) → Kept tokens hooks a b m → b.len ≡ m → all_fit a top (m ∷ ms) ≡ true → all_fit b b.len (b.len ∷ ms) ≡ true
+    pub back_fit : (top m : ℕ) (ms : List ℕ) → Kept tokens hooks a b m → (recorded b) ≡ m → all_fit a top (m ∷ ms) ≡ true → all_fit b (recorded b) ((recorded b) ∷ ms) ≡ true
     back_fit top m ms kept len e = subst (λ n. all_fit b n (n ∷ ms) ≡ true) (sym len) (same_fit m m (m ∷ ms) kept (omega arith) (itself a top m ms e))

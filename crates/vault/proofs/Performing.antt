@@ -1,6 +1,7 @@
 -- An action leaves the marks fitting, refused or accepted. Assumes nothing.
-use Rattle.std.proofs.Common.{◌≡◌, ℕ, ◌+◌, ◌*◌, ◌≤◌, Bool, true, false, leb, List, [], ◌∷◌, map, Ok, Result, sym, refl, ap, ◌∙◌, subst, arith}
+use Rattle.std.proofs.Common.{◌≡◌, ℕ, zero, suc, ◌+◌, ◌*◌, ◌≤◌, Bool, true, false, leb, List, [], ◌∷◌, length, map, Some, None, Option, is_some, Ok, Result, sym, refl, ap, ◌∙◌, subst, arith}
 use Rattle.std.proofs.lemmas.Bool.{and_parts, and_from, leb-true, le-leb}
+use Rattle.arrayvec.specs.ArrayVec.{ArrayVec}
 use Rattle.actions.specs.declared.action.Action.{Action}
 use Rattle.actions.specs.declared.action.Action.TheVariants as action
 use Rattle.actions.specs.Acts.{act}
@@ -12,15 +13,15 @@ use Rattle.hooks.specs.Meaning.{Hooks}
 use Rattle.store.specs.declared.answer.Answer.{Answer}
 use Rattle.store.specs.declared.state.Store.{Store}
 use Rattle.store.specs.Outcome.{Outcome, refused, done, Meets}
-use Rattle.store.specs.Room.{Grows, steps_at}
-use Rattle.store.specs.Saved.{world, saved}
+use Rattle.store.specs.Room.{steps_at}
+use Rattle.store.specs.Saved.{world, recorded, saved}
 use Rattle.store.specs.World.{World}
 use Rattle.store.proofs.Rooms.{steps_now}
 use Rattle.tokens.specs.Meaning.{Tokens}
 use Rattle.vault.specs.declared.call.Call.TheVariants as call
 use Rattle.vault.specs.declared.phase.Phase.{Phase}
 use Rattle.vault.specs.declared.phase.Phase.TheVariants as phase
-use Rattle.vault.specs.Marks.{ends, at_rest, fits, all_fit}
+use Rattle.vault.specs.Marks.{with_frames, phase_of, ends, at_rest, fits, all_fit}
 use Rattle.vault.specs.State.{State}
 use Rattle.vault.specs.Turns.{meets, session_meets, in_session, acted}
 use Rattle.vault.proofs.Fitting.{outer, under, same_fit, same_worlds}
@@ -43,20 +44,26 @@ step_in_session phase.Locked a e s = cc s
 step_in_session phase.Open a e s = session_step a e
 step_in_session (phase.Framed i) a e s = session_step a e
 
-pub locked_ends : (p : Phase) (marks : List ℕ) → in_session p ≡ false → ends p marks ≡ []
-locked_ends phase.Locked marks e = refl
-locked_ends phase.Open marks e = cc e
-locked_ends (phase.Framed i) marks e = cc e
+in_frames : (n : ℕ) → in_session (with_frames n) ≡ true
+in_frames zero = refl
+in_frames (suc n) = refl
 
-pub empty_rests : (p : Phase) → at_rest p 0 ≡ true
-empty_rests phase.Locked = refl
-empty_rests phase.Open = refl
-empty_rests (phase.Framed i) = refl
+-- a session is open where there are marks
+pub inside : (f : Option (ArrayVec ℕ)) → is_some f ≡ in_session (phase_of f)
+inside None = refl
+inside (Some marks) = sym (in_frames (length marks.items))
 
-pub session_rests : (p : Phase) (len : ℕ) → in_session p ≡ true → at_rest p len ≡ true
-session_rests phase.Locked len e = cc e
-session_rests phase.Open len e = refl
-session_rests (phase.Framed i) len e = refl
+pub locked_ends : (f : Option (ArrayVec ℕ)) → is_some f ≡ false → ends f ≡ []
+locked_ends None e = refl
+locked_ends (Some marks) e = cc e
+
+pub session_rests : (f : Option (ArrayVec ℕ)) (len : ℕ) → is_some f ≡ true → at_rest f len ≡ true
+session_rests None len e = cc e
+session_rests (Some marks) len e = refl
+
+pub empty_rests : (f : Option (ArrayVec ℕ)) → at_rest f 0 ≡ true
+empty_rests None = refl
+empty_rests (Some marks) = refl
 
 -- the answer, and what is left, are those of the outcome
 abbrev pub Acted : Phase → List World → World → Outcome Answer → Result Answer VaultFault → World → List World → Type 0
@@ -65,29 +72,29 @@ Acted p before w o r v after =
 
 module _ {T H : Type 0} where
   -- the room after the last entry
-  last_fits : (s : Store T H) (ms : List ℕ) → all_fit s s.len (s.len ∷ ms) ≡ true → (s.len ≤ 5 * s.held.book.steps) × (s.held.book.steps ≤ 64)
+  last_fits : (s : Store T H) (ms : List ℕ) → all_fit s (recorded s) ((recorded s) ∷ ms) ≡ true → ((recorded s) ≤ 5 * s.held.book.steps) × (s.held.book.steps ≤ 64)
   last_fits s ms e =
-      let here = and_parts (leb s.len (5 * steps_at s s.len)) _ (and_parts (fits s s.len) _ (and_parts (leb s.len s.len) _ e).1).0 in
-      (subst (λ n. s.len ≤ 5 * n) (steps_now s) (leb-true _ _ here.0), subst (λ n. n ≤ 64) (steps_now s) (leb-true _ _ here.1))
+      let here = and_parts (leb (recorded s) (5 * steps_at s (recorded s))) _ (and_parts (fits s (recorded s)) _ (and_parts (leb (recorded s) (recorded s)) _ e).1).0 in
+      (subst (λ n. (recorded s) ≤ 5 * n) (steps_now s) (leb-true _ _ here.0), subst (λ n. n ≤ 64) (steps_now s) (leb-true _ _ here.1))
 
   -- the marks fit, if there is room after the last entry
-  with_room : (s : Store T H) (ms : List ℕ) → s.len ≤ 5 * s.held.book.steps → s.held.book.steps ≤ 64 → all_fit s s.len ms ≡ true → all_fit s s.len (s.len ∷ ms) ≡ true
+  with_room : (s : Store T H) (ms : List ℕ) → (recorded s) ≤ 5 * s.held.book.steps → s.held.book.steps ≤ 64 → all_fit s (recorded s) ms ≡ true → all_fit s (recorded s) ((recorded s) ∷ ms) ≡ true
   with_room s ms long few e =
-      and_from _ _ (le-leb s.len s.len (omega arith))
-      (and_from (fits s s.len) _ (and_from _ _ (le-leb _ _ (subst (λ n. s.len ≤ 5 * n) (sym (steps_now s)) long)) (le-leb _ _ (subst (λ n. n ≤ 64) (sym (steps_now s)) few))) e)
+      and_from _ _ (le-leb (recorded s) (recorded s) (omega arith))
+      (and_from (fits s (recorded s)) _ (and_from _ _ (le-leb _ _ (subst (λ n. (recorded s) ≤ 5 * n) (sym (steps_now s)) long)) (le-leb _ _ (subst (λ n. n ≤ 64) (sym (steps_now s)) few))) e)
 
-  module _ (tokens : T → Tokens) (hooks : H → Hooks) (a b : Store T H) (ms : List ℕ) (fit : all_fit a a.len (a.len ∷ ms) ≡ true) where
+  module _ (tokens : T → Tokens) (hooks : H → Hooks) (a b : Store T H) (ms : List ℕ) (fit : all_fit a (recorded a) ((recorded a) ∷ ms) ≡ true) where
     -- what an accepted action does to the step count
     counts : (session : Bool) (x : Action) (y : Answer) (w : World) → done y w ≡ act session (world tokens hooks a.held) x → (w.book.steps ≡ steps_after (is_step session x) a.held.book.steps) × (a.held.book.steps ≤ 64 → w.book.steps ≤ 64)
     counts session x y w e = subst (Counted (is_step session x) a.held.book.steps) (sym e) (counted session (world tokens hooks a.held) x)
 
     -- in a session the marks fit after an action as before it
-    pub session_fit : (o : Outcome Answer) (x : Action) (r : Result Answer VaultFault) → o ≡ act true (world tokens hooks a.held) x → is_step true x ≡ true → Meets tokens hooks o a b r → Grows a.len b.len → all_fit b b.len (b.len ∷ ms) ≡ true
-    session_fit (refused f) x r e step m grows =
+    pub session_fit : (o : Outcome Answer) (x : Action) (r : Result Answer VaultFault) → o ≡ act true (world tokens hooks a.held) x → is_step true x ≡ true → Meets tokens hooks o a b r → all_fit b (recorded b) ((recorded b) ∷ ms) ≡ true
+    session_fit (refused f) x r e step m =
         let l = m.1.longer in
-        let len : a.len ≡ b.len = omega (arith, l) in
-        subst (λ n. all_fit b n (n ∷ ms) ≡ true) len (same_fit tokens hooks a b a.len a.len (a.len ∷ ms) m.1.kept (omega arith) fit)
-    session_fit (done y w) x r e step m grows =
+        let len : (recorded a) ≡ (recorded b) = omega (arith, l) in
+        subst (λ n. all_fit b n (n ∷ ms) ≡ true) len (same_fit tokens hooks a b (recorded a) (recorded a) ((recorded a) ∷ ms) m.1.kept (omega arith) fit)
+    session_fit (done y w) x r e step m =
         let s = m.1 in
         let room = last_fits a ms fit in
         let long = room.0 in
@@ -95,9 +102,9 @@ module _ {T H : Type 0} where
         let now : b.held.book.steps ≡ w.book.steps = ap (λ v. v.book.steps) s.now in
         let one : w.book.steps ≡ a.held.book.steps + 1 = count.0 ∙ ap (λ t. steps_after t a.held.book.steps) step in
         let few = count.1 room.1 in
-        let grown = grows.0 in
-        let longer = grows.1 in
-        with_room b ms (omega (arith, long, now, one, longer)) (omega (arith, now, few)) (under b a.len b.len ms grown (same_fit tokens hooks a b a.len a.len ms s.kept (omega arith) (outer a a.len a.len ms fit)))
+        let grown = s.longer.0 in
+        let longer = s.longer.1 in
+        with_room b ms (omega (arith, long, now, one, longer)) (omega (arith, now, few)) (under b (recorded a) (recorded b) ms grown (same_fit tokens hooks a b (recorded a) (recorded a) ms s.kept (omega arith) (outer a (recorded a) (recorded a) ms fit)))
 
     -- the step count stays within its bound
     few_steps : (o : Outcome Answer) (session : Bool) (x : Action) (r : Result Answer VaultFault) → o ≡ act session (world tokens hooks a.held) x → Meets tokens hooks o a b r → b.held.book.steps ≤ 64
@@ -105,7 +112,7 @@ module _ {T H : Type 0} where
     few_steps (done y w) session x r e m = let now : b.held.book.steps ≡ w.book.steps = ap (λ v. v.book.steps) m.1.now in let few = (counts session x y w e).1 (last_fits a ms fit).1 in omega (arith, now, few)
 
     -- in a locked vault nothing is left to undo
-    pub locked_fit : (s : Store T H) (o : Outcome Answer) (session : Bool) (x : Action) (r : Result Answer VaultFault) → o ≡ act session (world tokens hooks a.held) x → Meets tokens hooks o a b r → s.held ≡ b.held → s.len ≡ 0 → all_fit s s.len (s.len ∷ []) ≡ true
+    pub locked_fit : (s : Store T H) (o : Outcome Answer) (session : Bool) (x : Action) (r : Result Answer VaultFault) → o ≡ act session (world tokens hooks a.held) x → Meets tokens hooks o a b r → s.held ≡ b.held → (recorded s) ≡ 0 → all_fit s (recorded s) ((recorded s) ∷ []) ≡ true
     locked_fit s o session x r e m held empty =
         let few = few_steps o session x r e m in
         let now : s.held.book.steps ≡ b.held.book.steps = ap (λ v. v.book.steps) held in
@@ -113,5 +120,5 @@ module _ {T H : Type 0} where
 
     -- the answer and the state are those of the outcome
     pub acted_state : (p : Phase) (o : Outcome Answer) (r : Result Answer VaultFault) → Meets tokens hooks o a b r → Acted p (map (saved tokens hooks a) ms) (world tokens hooks a.held) o r (world tokens hooks b.held) (map (saved tokens hooks b) ms)
-    acted_state p (refused f) r m = let same = same_worlds tokens hooks a b a.len a.len ms m.1.kept (omega arith) (outer a a.len a.len ms fit) in (m.0, λ j. record { phase = p; now = m.1.now j; saved = same j })
-    acted_state p (done y w) r m = let same = same_worlds tokens hooks a b a.len a.len ms m.1.kept (omega arith) (outer a a.len a.len ms fit) in (m.0, λ j. record { phase = p; now = m.1.now j; saved = same j })
+    acted_state p (refused f) r m = let same = same_worlds tokens hooks a b (recorded a) (recorded a) ms m.1.kept (omega arith) (outer a (recorded a) (recorded a) ms fit) in (m.0, λ j. record { phase = p; now = m.1.now j; saved = same j })
+    acted_state p (done y w) r m = let same = same_worlds tokens hooks a b (recorded a) (recorded a) ms m.1.kept (omega arith) (outer a (recorded a) (recorded a) ms fit) in (m.0, λ j. record { phase = p; now = m.1.now j; saved = same j })

@@ -2,3 +2,4 @@ pub mod Marks
 pub mod State
 pub mod Turns
 pub mod Said
+pub mod Texts

@@ -1,32 +1,38 @@
 -- The marks of a session and its frames, and the room that the journal has after each. Assumes nothing.
-use Rattle.std.specs.Prelude.{ℕ, zero, suc, ◌*◌, Bool, true, ◌&&◌, List, [], ◌∷◌, ◌==◌, nat_le, nat_lt, slice_index}
+use Rattle.std.specs.Prelude.{ℕ, zero, suc, ◌*◌, Bool, true, ◌&&◌, List, [], ◌∷◌, Some, None, Option, length, fold, ◌==◌, nat_le}
+use Rattle.arrayvec.specs.ArrayVec.{ArrayVec}
 use Rattle.store.specs.declared.state.Store.{Store}
 use Rattle.store.specs.Room.{steps_at}
 use Rattle.vault.specs.declared.phase.Phase.{Phase}
 use Rattle.vault.specs.declared.phase.Phase.TheVariants as phase
 
--- the marks of the first n frames, innermost first, then the session's own, which is 0
-abbrev pub below : ℕ → List ℕ → List ℕ
-below zero marks = 0 ∷ []
-below (suc n) marks = slice_index marks n ∷ below n marks
+-- the phase in which so many frames are open
+abbrev pub with_frames : ℕ → Phase
+with_frames zero = phase.Open
+with_frames (suc n) = phase.Framed n
 
--- the marks of all that is open
-abbrev pub ends : Phase → List ℕ → List ℕ
-ends phase.Locked marks = []
-ends phase.Open marks = 0 ∷ []
-ends (phase.Framed i) marks = below (suc i) marks
+abbrev pub phase_of : Option (ArrayVec ℕ) → Phase
+phase_of None = phase.Locked
+phase_of (Some marks) = with_frames (length marks.items)
+
+-- the session's own mark is 0, and each frame's comes before those outside it
+abbrev pub inwards : List ℕ → List ℕ
+inwards marks = fold (λ outer mark. mark ∷ outer) (0 ∷ []) marks
+
+-- the marks of all that is open, innermost first
+abbrev pub ends : Option (ArrayVec ℕ) → List ℕ
+ends None = []
+ends (Some marks) = inwards marks.items
 
 -- there are at most four frames
-abbrev pub nested : Phase → Bool
-nested phase.Locked = true
-nested phase.Open = true
-nested (phase.Framed i) = nat_lt i 4
+abbrev pub nested : Option (ArrayVec ℕ) → Bool
+nested None = true
+nested (Some marks) = nat_le (length marks.items) 4
 
 -- a locked vault has nothing to undo
-abbrev pub at_rest : Phase → ℕ → Bool
-at_rest phase.Locked len = len == 0
-at_rest phase.Open len = true
-at_rest (phase.Framed i) len = true
+abbrev pub at_rest : Option (ArrayVec ℕ) → ℕ → Bool
+at_rest None len = len == 0
+at_rest (Some marks) len = true
 
 module _ {T H : Type 0} where
   -- at most five entries for each step, and at most 64 steps

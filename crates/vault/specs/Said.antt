@@ -1,11 +1,18 @@
 -- What the answers with slips say. Assumes nothing.
 use Rattle.std.specs.Prelude.{Bool, true, false, Ok, Err, Result}
+use Rattle.faults.specs.declared.cause.Cause.{Cause}
 use Rattle.faults.specs.declared.cause.VaultFault.{VaultFault}
+use Rattle.faults.specs.Reports.{unplaced}
 use Rattle.store.specs.declared.answer.Answer.{Answer}
 use Rattle.store.specs.declared.answer.Answer.TheVariants as answer
 use Rattle.vault.specs.declared.slips.NotClosed.{NotClosed}
 use Rattle.vault.specs.declared.slips.NotClosed.TheVariants as not_closed
 use Rattle.vault.specs.declared.slips.Refused.{Refused}
+
+-- the slip of a call that the phase lets through, or the refusal with the slip
+abbrev pub admitted : {S : Type 0} → Result Unit Cause → S → Result S (Refused S)
+admitted (Ok u) slip = Ok slip
+admitted (Err cause) slip = Err (record { fault = unplaced cause; slip = slip })
 
 -- a slip was given out, or the call refused
 abbrev pub given : {S : Type 0} → Result S VaultFault → Result Answer VaultFault

@@ -6,7 +6,7 @@ use Rattle.store.specs.World.{World}
 use Rattle.tokens.specs.Meaning.{Tokens}
 use Rattle.vault.specs.declared.phase.Phase.{Phase}
 use Rattle.vault.specs.declared.vault.Vault.{Vault}
-use Rattle.vault.specs.Marks.{ends}
+use Rattle.vault.specs.Marks.{phase_of, ends}
 
 pub record State : Type 0 where
   pub phase : Phase
@@ -16,4 +16,4 @@ pub record State : Type 0 where
 
 module _ {T H : Type 0} (tokens : T → Tokens) (hooks : H → Hooks) where
   abbrev pub state : Vault T H → State
-  state v = record { phase = v.phase; now = world tokens hooks v.store.held; saved = map (saved tokens hooks v.store) (ends v.phase v.marks) }
+  state v = record { phase = phase_of v.frames; now = world tokens hooks v.store.held; saved = map (saved tokens hooks v.store) (ends v.frames) }

@@ -7,6 +7,7 @@ mod inside;
 mod new;
 mod phase;
 mod phases;
+mod print;
 mod reads;
 mod sessions;
 mod slips;

@@ -3,7 +3,6 @@ ghost use Rattle.std.specs.Prelude.{◌≡◌};
 ghost use Rattle.vault.specs.State.{state};
 ghost use Rattle.vault.specs.Turns.{new_state};
 
-use crate::phase::Phase;
 use crate::vault::Vault;
 use hooks::HookBank;
 use store::Store;
@@ -15,8 +14,7 @@ impl<T: TokenBank, H: HookBank> Vault<T, H> {
     {
         Vault {
             store: Store::new(tokens, hooks),
-            phase: Phase::Locked,
-            marks: [0; 4],
+            frames: None,
         }
     }
 }

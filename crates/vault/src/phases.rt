@@ -1,39 +1,20 @@
-// What follows from a phase.
-ghost use Rattle.std.specs.Prelude.{◌≡◌, true};
-ghost use Rattle.vault.specs.Marks.{nested};
-ghost use Rattle.vault.specs.Turns.{in_session, frames as frames_of, shallower};
+// The phase of a vault, told from its marks.
+ghost use Rattle.std.specs.Prelude.{◌≡◌};
+ghost use Rattle.vault.specs.Marks.{phase_of};
 
 use crate::phase::Phase;
+use crate::vault::Vault;
 
-impl Phase {
-    pub(crate) fn in_session(self) -> bool
-        ensures { result ≡ in_session self }
+impl<T, H> Vault<T, H> {
+    pub(crate) fn phase(&self) -> Phase
+        ensures { result ≡ phase_of self.now.frames }
     {
-        match self {
-            Phase::Locked => false,
-            Phase::Open | Phase::Framed(_) => true,
-        }
-    }
-
-    // How many frames are open.
-    pub(crate) fn frames(self) -> u32
-        requires { nested self ≡ true }
-        ensures { result ≡ frames_of self }
-    {
-        match self {
-            Phase::Locked | Phase::Open => 0,
-            Phase::Framed(inner) => inner + 1,
-        }
-    }
-
-    // One frame less.
-    pub(crate) fn outside(self) -> Phase
-        ensures { result ≡ shallower self }
-    {
-        match self {
-            Phase::Framed(inner) if inner > 0 => Phase::Framed(inner - 1),
-            Phase::Framed(_) => Phase::Open,
-            _ => self,
+        match &self.frames {
+            None => Phase::Locked,
+            Some(marks) => match marks.len() {
+                0 => Phase::Open,
+                open => Phase::Framed(open as u32 - 1),
+            },
         }
     }
 }

@@ -1,6 +1,7 @@
 // Sessions and frames.
 ghost use Rattle.std.specs.Prelude.{◌≡◌, is_err};
 ghost use Rattle.vault.specs.declared.call.Call.TheVariants.{Open as open_call, Close as close_call, Abandon as abandon_call, Frame as frame_call, Keep as keep_call, Drop as drop_call};
+ghost use Rattle.vault.specs.Marks.{phase_of};
 ghost use Rattle.vault.specs.Said.{given, taken, closed, slip_back};
 ghost use Rattle.vault.specs.State.{state};
 ghost use Rattle.vault.specs.Turns.{meets, turn};
@@ -27,16 +28,9 @@ impl<T: TokenBank, H: HookBank> Vault<T, H> {
     pub fn close(&mut self, session: Session) -> Result<(), NotClosed>
         ensures answers { closed result ≡ (turn (state T.TokenBank.meaning H.HookBank.meaning self.old) close_call).answer }
         ensures leaves { state T.TokenBank.meaning H.HookBank.meaning self.new ≡ (turn (state T.TokenBank.meaning H.HookBank.meaning self.old) close_call).left }
-        ensures slip { slip_back result ≡ is_err (meets self.old.phase close_call) }
+        ensures slip { slip_back result ≡ is_err (meets (phase_of self.old.frames) close_call) }
     {
-        if let Err(cause) = self.meet(Call::Close) {
-            let fault = VaultFault::from(cause);
-            return Err(NotClosed::Refused(Refused {
-                fault,
-                slip: session,
-            }));
-        }
-        let Session { slip: () } = session;
+        let Session { slip: () } = self.admit(Call::Close, session)?;
         if open_deltas(self.store.book()) != 0 {
             self.fail();
             return Err(NotClosed::Undone(VaultFault::from(Cause::DeltaOpen)));
@@ -49,18 +43,12 @@ impl<T: TokenBank, H: HookBank> Vault<T, H> {
         ensures answers { taken result ≡ (turn (state T.TokenBank.meaning H.HookBank.meaning self.old) abandon_call).answer }
         ensures leaves { state T.TokenBank.meaning H.HookBank.meaning self.new ≡ (turn (state T.TokenBank.meaning H.HookBank.meaning self.old) abandon_call).left }
     {
-        if let Err(cause) = self.meet(Call::Abandon) {
-            let fault = VaultFault::from(cause);
-            return Err(Refused {
-                fault,
-                slip: session,
-            });
-        }
-        let Session { slip: () } = session;
+        let Session { slip: () } = self.admit(Call::Abandon, session)?;
         self.fail();
         Ok(())
     }
 
+    // As `open`, with a slip of another type: that they are two is what slips are for.
     pub fn frame(&mut self) -> Result<Frame, VaultFault>
         ensures answers { given result ≡ (turn (state T.TokenBank.meaning H.HookBank.meaning self.old) frame_call).answer }
         ensures leaves { state T.TokenBank.meaning H.HookBank.meaning self.new ≡ (turn (state T.TokenBank.meaning H.HookBank.meaning self.old) frame_call).left }
@@ -74,11 +62,7 @@ impl<T: TokenBank, H: HookBank> Vault<T, H> {
         ensures answers { taken result ≡ (turn (state T.TokenBank.meaning H.HookBank.meaning self.old) keep_call).answer }
         ensures leaves { state T.TokenBank.meaning H.HookBank.meaning self.new ≡ (turn (state T.TokenBank.meaning H.HookBank.meaning self.old) keep_call).left }
     {
-        if let Err(cause) = self.meet(Call::Keep) {
-            let fault = VaultFault::from(cause);
-            return Err(Refused { fault, slip: frame });
-        }
-        let Frame { slip: () } = frame;
+        let Frame { slip: () } = self.admit(Call::Keep, frame)?;
         self.merge();
         Ok(())
     }
@@ -87,11 +71,7 @@ impl<T: TokenBank, H: HookBank> Vault<T, H> {
         ensures answers { taken result ≡ (turn (state T.TokenBank.meaning H.HookBank.meaning self.old) drop_call).answer }
         ensures leaves { state T.TokenBank.meaning H.HookBank.meaning self.new ≡ (turn (state T.TokenBank.meaning H.HookBank.meaning self.old) drop_call).left }
     {
-        if let Err(cause) = self.meet(Call::Drop) {
-            let fault = VaultFault::from(cause);
-            return Err(Refused { fault, slip: frame });
-        }
-        let Frame { slip: () } = frame;
+        let Frame { slip: () } = self.admit(Call::Drop, frame)?;
         self.unnest();
         Ok(())
     }

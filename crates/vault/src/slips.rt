@@ -1,4 +1,7 @@
 // Slips: values that nobody outside can make, copy or let go. They hold nothing; having one is what counts.
+ghost use Rattle.std.specs.Prelude.{◌≡◌};
+ghost use Rattle.vault.specs.declared.slips.NotClosed.TheVariants as not_closed;
+
 use faults::VaultFault;
 
 // Given out by `open`, taken in by `close` or `abandon`.
@@ -21,4 +24,13 @@ pub struct Refused<S> {
 pub enum NotClosed {
     Refused(Refused<Session>),
     Undone(VaultFault),
+}
+
+// Written out, to state which refusal comes of it.
+impl From<Refused<Session>> for NotClosed {
+    ghost from_gives = { λ e r. r ≡ not_closed.Refused e };
+
+    fn from(e: Refused<Session>) -> NotClosed {
+        NotClosed::Refused(e)
+    }
 }

@@ -1,9 +1,10 @@
 use Rattle.std.proofs.Common.{rules}
-use Rattle.tokens.specs.Sums.{sum_none, sum_more}
+use Rattle.std.proofs.iter.runs.Sources.{sums}
+use Rattle.tokens.proofs.Openings.{sum_of_row}
 use Rattle.tokens.proofs.opening.row_sum.Goals as goal
 
-pub loop-a-init : goal.loop-a-init
-loop-a-init c = search (rules, sum_none)
+pub sum-requires-clause-fits : goal.sum-requires-clause-fits
+sum-requires-clause-fits c = search (rules, sums)
 
-pub loop-a-preserved : goal.loop-a-preserved
-loop-a-preserved c = search (rules, sum_more)
+pub returns : goal.returns
+returns c = search (rules, sum_of_row)

@@ -1,10 +1,6 @@
-use Rattle.std.proofs.Common.{rules}
-use Rattle.std.proofs.lemmas.List.Sums.{sum_by_more}
-use Rattle.std.proofs.lemmas.List.{take_all}
+use Rattle.std.proofs.Common.{rules, arith}
+use Rattle.totals.proofs.Rows.{rows_fit}
 use Rattle.totals.proofs.debts.open_deltas.Goals as goal
 
-pub loop-row-preserved : goal.loop-row-preserved
-loop-row-preserved c = (search (rules, sum_by_more), search rules)
-
-pub returns : goal.returns
-returns c = search (rules, take_all)
+pub sum-requires-clause-fits : goal.sum-requires-clause-fits
+sum-requires-clause-fits c = rows_fit (search rules) (omega arith) (search rules)

@@ -1,20 +1,21 @@
-use Rattle.std.proofs.Common.{take, drop, refl, ap, ◌∙◌, rules}
+use Rattle.std.proofs.Common.{◌≡◌, ◌-◌, length, drop, arith, rules, length-drop}
+use Rattle.std.proofs.lemmas.List.{take_all}
 use Rattle.journal.proofs.Rewinds.{rewound_on}
 use Rattle.journal.specs.Rewound.{rewound}
-use Rattle.std.proofs.lemmas.Slice.{between_is}
 use Rattle.store.specs.World.{undone}
 use Rattle.store.specs.Saved.{world}
 use Rattle.store.proofs.state.Store.rewind_to.Goals as goal
 
 pub returns : goal.returns
 returns g c =
+    let w = world g.T.TokenBank.meaning g.H.HookBank.meaning in
     let s = c.args.self.now in
-    let t = g.T.TokenBank.meaning in
-    let h = g.H.HookBank.meaning in
-    let e = c.rewind.ensures ∙ ap (rewound undone (world t h s.held)) (between_is s.log c.args.n s.len) in
+    let n = c.args.n in
+    let later = take_all (length s.log.items - n) (drop n s.log.items) (simp length-drop (omega arith)) in
+    let back : w c.rewind.new.state ≡ rewound undone (w s.held) (drop n s.log.items) = cc in
     record {
-      now = e;
-      shorter = refl;
-      log = refl;
-      kept = λ k below. ap (λ v. rewound undone v (drop k (take c.args.n s.log))) e ∙ rewound_on undone (world t h s.held) s.log s.len c.args.n k below (search rules) (search rules);
+      now = back;
+      shorter = search rules;
+      log = search rules;
+      kept = λ k below. let same = rewound_on undone (w s.held) s.log.items n k below (search rules) in cc;
     }

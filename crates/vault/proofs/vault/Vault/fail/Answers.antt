@@ -1,6 +1,9 @@
-use Rattle.std.proofs.Common.{◌≡◌, true, [], ◌∷◌, refl, subst}
+use Rattle.std.proofs.Common.{◌≡◌, true, [], ◌∷◌, map, sym, refl, ap, ◌∙◌, subst}
 use Rattle.std.proofs.lemmas.Bool.{eq-eqb}
+use Rattle.store.specs.Saved.{world, recorded, saved}
+use Rattle.vault.specs.declared.phase.Phase.TheVariants as phase
 use Rattle.vault.specs.Marks.{all_fit}
+use Rattle.vault.specs.Turns.{last_of}
 use Rattle.vault.proofs.Fitting.{outer, back_fit}
 use Rattle.vault.proofs.Nesting.{abandoned_ends}
 use Rattle.vault.proofs.vault.Vault.fail.Goals as goal
@@ -10,5 +13,14 @@ invariant_of-self g c =
     let v = c.args.self.now in
     let s = v.store in
     let b = c.rewind_to.new.self in
-    let fit : all_fit s s.len (0 ∷ []) ≡ true = subst (λ ms. all_fit s s.len ms ≡ true) (abandoned_ends v.phase v.marks c.requires) (outer s s.len s.len _ v.fit) in
-    record { sized = v.sized; nested = refl; rests = eq-eqb _ _ c.rewind_to.ensures.shorter; fit = back_fit g.T.TokenBank.meaning g.H.HookBank.meaning s b s.len 0 [] c.rewind_to.ensures.kept c.rewind_to.ensures.shorter fit }
+    let fit : all_fit s (recorded s) (0 ∷ []) ≡ true = subst (λ ms. all_fit s (recorded s) ms ≡ true) (abandoned_ends v.frames c.requires) (outer s (recorded s) (recorded s) _ v.fit) in
+    let back = c.rewind_to.ensures in
+    record { nested = refl; rests = eq-eqb _ _ back.shorter; fit = back_fit g.T.TokenBank.meaning g.H.HookBank.meaning s b (recorded s) 0 [] back.kept back.shorter fit }
+
+pub returns : goal.returns
+returns g c =
+    let v = c.args.self.now in
+    let t = g.T.TokenBank.meaning in
+    let h = g.H.HookBank.meaning in
+    let opening = c.rewind_to.ensures.now ∙ ap (λ ms. last_of (world t h v.store.held) (map (saved t h v.store) ms)) (sym (abandoned_ends v.frames c.requires)) in
+    λ i. record { phase = phase.Locked; now = opening i; saved = [] }
