@@ -1,4 +1,4 @@
--- What actions read like in print: their name, and their numbers in the order of the rulebook. Assumes nothing.
+-- What actions print: their name, and their numbers in the order of the rulebook. Assumes nothing.
 use Rattle.std.specs.Prelude.{ℕ, List, ◌++◌}
 use Rattle.std.specs.Fmt.{decimal}
 use Rattle.actions.specs.declared.action.Action.{Action}

@@ -3,7 +3,7 @@
 
 mod action;
 mod dispatch;
-mod print;
+mod texts;
 
 pub use action::Action;
 pub use dispatch::act;

@@ -1,4 +1,4 @@
--- What faults read like in print. Assumes nothing.
+-- What faults print. Assumes nothing.
 use Rattle.std.specs.Prelude.{ℕ, List, [], ◌++◌, Some, None, Option}
 use Rattle.std.specs.Fmt.{decimal}
 use Rattle.faults.specs.declared.report.Layer.{Layer}

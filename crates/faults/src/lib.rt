@@ -2,8 +2,8 @@
 #![tactic(auto)]
 
 mod cause;
-mod print;
 mod report;
+mod texts;
 
 pub use cause::{Cause, VaultFault};
 pub use report::{Layer, Report};

@@ -3,4 +3,3 @@ pub mod Passing
 pub mod Resting
 pub mod Steps
 pub mod Laws
-pub mod Winding

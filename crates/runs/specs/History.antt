@@ -26,6 +26,9 @@ abbrev pub after_all : State → List Call → State
 after_all s [] = s
 after_all s (c ∷ cs) = after_all (turn s c).left cs
 
--- all frames dropped, and the session abandoned
+-- every frame dropped, and the session abandoned
+abbrev pub winding : List Call
+winding = call.Drop ∷ call.Drop ∷ call.Drop ∷ call.Drop ∷ call.Abandon ∷ []
+
 abbrev pub given_up : State → State
-given_up s = after_all s (call.Drop ∷ call.Drop ∷ call.Drop ∷ call.Drop ∷ call.Abandon ∷ [])
+given_up s = after_all s winding

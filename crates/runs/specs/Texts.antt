@@ -1,4 +1,4 @@
--- What a call with its reply reads like in print. Assumes nothing.
+-- What a call with its reply prints. Assumes nothing.
 use Rattle.std.specs.Prelude.{ℕ, List, ◌++◌, Ok, Err, Result, codes}
 use Rattle.faults.specs.declared.cause.VaultFault.{VaultFault}
 use Rattle.faults.specs.Reports.{report_of}

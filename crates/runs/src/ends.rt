@@ -1,6 +1,6 @@
 // What is still open after a run, given up.
 ghost use Rattle.std.specs.Prelude.{◌≡◌};
-ghost use Rattle.runs.specs.History.{given_up};
+ghost use Rattle.runs.specs.History.{winding, given_up};
 ghost use Rattle.vault.specs.State.{state};
 ghost use Rattle.vault.specs.Turns.{failed};
 
@@ -9,19 +9,25 @@ use hooks::HookBank;
 use tokens::TokenBank;
 use vault::{Call, Vault};
 
+// Every frame dropped, and the session abandoned.
+fn winding() -> [Call; 5]
+    ensures { result ≡ winding }
+{
+    [
+        Call::Drop,
+        Call::Drop,
+        Call::Drop,
+        Call::Drop,
+        Call::Abandon,
+    ]
+}
+
 impl<T: TokenBank, H: HookBank> Desk<T, H> {
-    // Every frame dropped, and the session abandoned.
     fn given_up(self) -> Self
         ensures { state T.TokenBank.meaning H.HookBank.meaning result.vault ≡ given_up (state T.TokenBank.meaning H.HookBank.meaning self.vault) }
     {
         let mut desk = self;
-        for call in [
-            Call::Drop,
-            Call::Drop,
-            Call::Drop,
-            Call::Drop,
-            Call::Abandon,
-        ] {
+        for call in winding() {
             (desk, _) = desk.turn(call);
         }
         desk

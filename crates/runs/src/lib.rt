@@ -7,8 +7,8 @@ mod line;
 mod piles;
 mod playing;
 mod plays;
-mod print;
 mod slips;
+mod texts;
 mod turns;
 
 pub use desk::Desk;

@@ -31,9 +31,5 @@ saved_steps tokens hooks s n = rewound_part undone steps_back (λ w. w.book.step
 none_after : {E : Type 0} (log : List E) → drop (length log) log ≡ []
 none_after log = drop_of_length-le log (omega arith)
 
--- the last mark restores what holds
-pub saved_now : {T H : Type 0} (tokens : T → Tokens) (hooks : H → Hooks) (s : Store T H) → saved tokens hooks s (recorded s) ≡ world tokens hooks s.held
-saved_now tokens hooks s = ap (rewound undone (world tokens hooks s.held)) (none_after s.log.items)
-
 pub steps_now : {T H : Type 0} (s : Store T H) → steps_at s (recorded s) ≡ s.held.book.steps
 steps_now s = ap (rewound steps_back s.held.book.steps) (none_after s.log.items)

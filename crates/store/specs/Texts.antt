@@ -1,4 +1,4 @@
--- What answers read like in print. Assumes nothing.
+-- What answers print. Assumes nothing.
 use Rattle.std.specs.Prelude.{ℕ, List}
 use Rattle.std.specs.Fmt.{decimal}
 use Rattle.store.specs.declared.answer.Answer.{Answer}

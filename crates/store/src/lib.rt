@@ -5,8 +5,8 @@ mod answer;
 mod changes;
 mod entry;
 mod new;
-mod print;
 mod state;
+mod texts;
 mod undo;
 
 pub use answer::Answer;

@@ -1,8 +1,15 @@
 // The sum of the deltas of one currency, and how many deltas are open.
-ghost use Rattle.std.specs.Prelude.{◌≡◌, ◌≤◌, count_by};
+ghost use Rattle.std.specs.Prelude.{◌≡◌, ◌≤◌, get_or, pos, count_by};
 ghost use Rattle.totals.specs.Totals.{deltas_in, is_open, open_deltas};
 
 use book::{Book, Currency};
+
+// What an account owes of one currency, or is owed.
+fn due(row: &[i64; 8], c: Currency) -> i64
+    ensures { result ≡ get_or row.now c.number (pos 0) }
+{
+    row[c.number as usize]
+}
 
 // Summed in i128, so that the cells need no bound; in a loop, since of signed numbers the library's `sum` asks a bound that a chain does
 // not show.
@@ -11,7 +18,7 @@ pub fn deltas_in(book: &Book, c: Currency) -> i128
 {
     let mut sum = 0;
     for row in &book.deltas {
-        sum += row[c.number as usize] as i128;
+        sum += due(row, c) as i128;
     }
     sum
 }

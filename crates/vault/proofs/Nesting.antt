@@ -1,7 +1,7 @@
 -- The marks of a frame more and of a frame less. Assumes nothing.
-use Rattle.std.proofs.Common.{◌≡◌, ℕ, zero, suc, ◌-◌, true, eqb, leb, List, [], ◌∷◌, ◌++◌, length, Some, None, Option, Ok, refl, ap, ◌∙◌, subst, append-nil, length-append, arith}
+use Rattle.std.proofs.Common.{◌≡◌, ℕ, zero, suc, ◌-◌, true, eqb, List, [], ◌∷◌, ◌++◌, length, Some, None, Option, Ok, refl, ap, ◌∙◌, subst, append-nil, arith}
 use Rattle.std.specs.Option.{option_to_list}
-use Rattle.std.proofs.lemmas.Bool.{cond-false, ne_eqb, leb-true, le-leb}
+use Rattle.std.proofs.lemmas.Bool.{cond-false, ne_eqb}
 use Rattle.std.proofs.lemmas.List.Sums.{fold-append}
 use Rattle.arrayvec.specs.ArrayVec.{ArrayVec}
 use Rattle.store.specs.declared.state.Store.{Store}
@@ -19,10 +19,6 @@ pushed marks m = fold-append (λ outer mark. mark ∷ outer) (0 ∷ []) marks (m
 pub shallow : (n : ℕ) → shallower (with_frames (suc n)) ≡ with_frames n
 shallow zero = refl
 shallow (suc n) = cond-false (eqb (suc n) 0) phase.Open (phase.Framed (suc n - 1)) (ne_eqb (suc n) 0 (λ e. omega (arith, e))) ∙ ap phase.Framed (omega arith)
-
--- of marks that lose some, no more are left
-pub fewer : (marks kept gone : List ℕ) → marks ≡ kept ++ gone → leb (length marks) 4 ≡ true → leb (length kept) 4 ≡ true
-fewer marks kept gone e few = le-leb _ 4 (let h = leb-true _ 4 few in omega (arith, h, ap length e, length-append kept gone))
 
 -- marks without the last fit
 pub popped_fit : {T H : Type 0} (s : Store T H) (top : ℕ) (marks kept : List ℕ) (gone : Option ℕ) → marks ≡ kept ++ option_to_list gone → all_fit s top (top ∷ inwards marks) ≡ true → all_fit s top (top ∷ inwards kept) ≡ true

@@ -21,7 +21,7 @@ use Rattle.tokens.specs.Meaning.{Tokens}
 use Rattle.vault.specs.declared.call.Call.TheVariants as call
 use Rattle.vault.specs.declared.phase.Phase.{Phase}
 use Rattle.vault.specs.declared.phase.Phase.TheVariants as phase
-use Rattle.vault.specs.Marks.{with_frames, phase_of, ends, at_rest, fits, all_fit}
+use Rattle.vault.specs.Marks.{with_frames, phase_of, ends, fits, all_fit}
 use Rattle.vault.specs.State.{State}
 use Rattle.vault.specs.Turns.{meets, session_meets, in_session, acted}
 use Rattle.vault.proofs.Fitting.{outer, under, same_fit, same_worlds}
@@ -56,19 +56,6 @@ inside (Some marks) = sym (in_frames (length marks.items))
 pub locked_ends : (f : Option (ArrayVec ℕ)) → is_some f ≡ false → ends f ≡ []
 locked_ends None e = refl
 locked_ends (Some marks) e = cc e
-
-pub session_rests : (f : Option (ArrayVec ℕ)) (len : ℕ) → is_some f ≡ true → at_rest f len ≡ true
-session_rests None len e = cc e
-session_rests (Some marks) len e = refl
-
-pub empty_rests : (f : Option (ArrayVec ℕ)) → at_rest f 0 ≡ true
-empty_rests None = refl
-empty_rests (Some marks) = refl
-
--- the answer, and what is left, are those of the outcome
-abbrev pub Acted : Phase → List World → World → Outcome Answer → Result Answer VaultFault → World → List World → Type 0
-Acted p before w o r v after =
-    (r ≡ (acted (record { phase = p; now = w; saved = before }) o).answer) × (◌≡◌ {A = State} (record { phase = p; now = v; saved = after }) (acted (record { phase = p; now = w; saved = before }) o).left)
 
 module _ {T H : Type 0} where
   -- the room after the last entry
@@ -118,7 +105,11 @@ module _ {T H : Type 0} where
         let now : s.held.book.steps ≡ b.held.book.steps = ap (λ v. v.book.steps) held in
         with_room s [] (omega (arith, empty)) (omega (arith, now, few)) refl
 
-    -- the answer and the state are those of the outcome
-    pub acted_state : (p : Phase) (o : Outcome Answer) (r : Result Answer VaultFault) → Meets tokens hooks o a b r → Acted p (map (saved tokens hooks a) ms) (world tokens hooks a.held) o r (world tokens hooks b.held) (map (saved tokens hooks b) ms)
-    acted_state p (refused f) r m = let same = same_worlds tokens hooks a b (recorded a) (recorded a) ms m.1.kept (omega arith) (outer a (recorded a) (recorded a) ms fit) in (m.0, λ j. record { phase = p; now = m.1.now j; saved = same j })
-    acted_state p (done y w) r m = let same = same_worlds tokens hooks a b (recorded a) (recorded a) ms m.1.kept (omega arith) (outer a (recorded a) (recorded a) ms fit) in (m.0, λ j. record { phase = p; now = m.1.now j; saved = same j })
+    -- the state with these marks
+    abbrev marked : Store T H → Phase → State
+    marked s p = record { phase = p; now = world tokens hooks s.held; saved = map (saved tokens hooks s) ms }
+
+    -- what is left is what the outcome leaves
+    pub acted_state : (p : Phase) (o : Outcome Answer) (r : Result Answer VaultFault) → Meets tokens hooks o a b r → marked b p ≡ (acted (marked a p) o).left
+    acted_state p (refused f) r m = let same = same_worlds tokens hooks a b (recorded a) (recorded a) ms m.1.kept (omega arith) (outer a (recorded a) (recorded a) ms fit) in λ j. record { phase = p; now = m.1.now j; saved = same j }
+    acted_state p (done y w) r m = let same = same_worlds tokens hooks a b (recorded a) (recorded a) ms m.1.kept (omega arith) (outer a (recorded a) (recorded a) ms fit) in λ j. record { phase = p; now = m.1.now j; saved = same j }

@@ -1,4 +1,4 @@
--- What calls read like in print. Assumes nothing.
+-- What calls print. Assumes nothing.
 use Rattle.std.specs.Prelude.{ℕ, List}
 use Rattle.actions.specs.Texts.{action_text}
 use Rattle.vault.specs.declared.call.Call.{Call}

@@ -7,10 +7,10 @@ mod inside;
 mod new;
 mod phase;
 mod phases;
-mod print;
 mod reads;
 mod sessions;
 mod slips;
+mod texts;
 mod vault;
 
 pub use call::Call;

@@ -7,6 +7,5 @@ pub returns-clause-leaves : goal.returns-clause-leaves
 returns-clause-leaves g c =
     let s = c.args.self.now.held.hooks in
     let m = g.H.HookBank.meaning s in
-    let said = c.in_ok-old.ensures in
     let same = tell_back m c.args.p.hook c.args.p.input c.args.p.output c.in_ok-old.old (g.met.H.HookBank.lawful s) (grind (arith, nat_tests)) (grind (arith, nat_tests)) in
     one_more _ c.push.ensures.items (cc) (cc)

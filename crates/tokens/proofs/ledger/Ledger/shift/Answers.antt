@@ -9,10 +9,11 @@ overflow_add-supply c = let r = room c.args.self.now _ _ _ _ _ _ c.requires in g
 pub overflow_cast-supply : goal.overflow_cast-supply
 overflow_cast-supply c = let r = room c.args.self.now _ _ _ _ _ _ c.requires in search rules
 
-pub invariant_of-self : goal.invariant_of-self
-invariant_of-self c =
-    let s = c.args.self.now in
-    record { few = s.few; shaped = still_shaped s _ _ _ _ _ _ c.requires; bounded = still_bounded s _ _ _ _ _ _ c.requires }
+pub invariant_of-self-clause-shaped : goal.invariant_of-self-clause-shaped
+invariant_of-self-clause-shaped c = still_shaped c.args.self.now _ _ _ _ _ _ c.requires
+
+pub invariant_of-self-clause-bounded : goal.invariant_of-self-clause-bounded
+invariant_of-self-clause-bounded c = still_bounded c.args.self.now _ _ _ _ _ _ c.requires
 
 pub returns : goal.returns
 returns c = let s = c.args.self.now in written s _ _ _ _ _ _ c.requires s.rate.parts

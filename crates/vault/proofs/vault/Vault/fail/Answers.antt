@@ -1,5 +1,4 @@
-use Rattle.std.proofs.Common.{◌≡◌, true, [], ◌∷◌, map, sym, refl, ap, ◌∙◌, subst}
-use Rattle.std.proofs.lemmas.Bool.{eq-eqb}
+use Rattle.std.proofs.Common.{◌≡◌, true, [], ◌∷◌, map, sym, ap, ◌∙◌, subst}
 use Rattle.store.specs.Saved.{world, recorded, saved}
 use Rattle.vault.specs.declared.phase.Phase.TheVariants as phase
 use Rattle.vault.specs.Marks.{all_fit}
@@ -8,14 +7,14 @@ use Rattle.vault.proofs.Fitting.{outer, back_fit}
 use Rattle.vault.proofs.Nesting.{abandoned_ends}
 use Rattle.vault.proofs.vault.Vault.fail.Goals as goal
 
-pub invariant_of-self : goal.invariant_of-self
-invariant_of-self g c =
+pub invariant_of-self-clause-fit : goal.invariant_of-self-clause-fit
+invariant_of-self-clause-fit g c =
     let v = c.args.self.now in
     let s = v.store in
     let b = c.rewind_to.new.self in
     let fit : all_fit s (recorded s) (0 ∷ []) ≡ true = subst (λ ms. all_fit s (recorded s) ms ≡ true) (abandoned_ends v.frames c.requires) (outer s (recorded s) (recorded s) _ v.fit) in
     let back = c.rewind_to.ensures in
-    record { nested = refl; rests = eq-eqb _ _ back.shorter; fit = back_fit g.T.TokenBank.meaning g.H.HookBank.meaning s b (recorded s) 0 [] back.kept back.shorter fit }
+    back_fit g.T.TokenBank.meaning g.H.HookBank.meaning s b (recorded s) 0 [] back.kept back.shorter fit
 
 pub returns : goal.returns
 returns g c =

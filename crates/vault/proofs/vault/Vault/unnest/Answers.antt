@@ -1,14 +1,14 @@
-use Rattle.std.proofs.Common.{◌≡◌, suc, true, [], ◌∷◌, ◌++◌, length, map, refl, ap, ◌∙◌, sym, subst, arith, length-append}
+use Rattle.std.proofs.Common.{◌≡◌, suc, true, [], ◌∷◌, ◌++◌, length, map, ap, ◌∙◌, sym, subst, arith, length-append}
 use Rattle.std.specs.Option.{option_to_list}
 use Rattle.store.specs.Saved.{world, recorded, saved}
-use Rattle.vault.specs.Marks.{with_frames, phase_of, inwards, ends, nested, all_fit}
+use Rattle.vault.specs.Marks.{with_frames, phase_of, inwards, ends, all_fit}
 use Rattle.vault.specs.Turns.{shallower, rest, first_of}
 use Rattle.vault.proofs.Fitting.{outer, itself, back_fit, same_worlds}
-use Rattle.vault.proofs.Nesting.{pushed, shallow, fewer}
+use Rattle.vault.proofs.Nesting.{pushed, shallow}
 use Rattle.vault.proofs.vault.Vault.unnest.Goals as goal
 
-pub invariant_of-self-2 : goal.invariant_of-self-2
-invariant_of-self-2 g c =
+pub invariant_of-self-2-clause-fit : goal.invariant_of-self-2-clause-fit
+invariant_of-self-2-clause-fit g c =
     let v = c.args.self.now in
     let s = v.store in
     let b = c.rewind_to.new.self in
@@ -17,11 +17,7 @@ invariant_of-self-2 g c =
     let left = c.pop.new.self.items in
     let split = c.pop.ensures.items ∙ ap (λ r. left ++ option_to_list r) c.in-Some-pop.is in
     let fit : all_fit s (recorded s) (m ∷ inwards left) ≡ true = outer s (recorded s) (recorded s) (m ∷ inwards left) (subst (λ ms. all_fit s (recorded s) (recorded s ∷ ms) ≡ true) (ap ends was ∙ ap inwards split ∙ pushed left m) v.fit) in
-    record {
-      nested = fewer _ _ (m ∷ []) split (subst (λ f. nested f ≡ true) was v.nested);
-      rests = refl;
-      fit = back_fit g.T.TokenBank.meaning g.H.HookBank.meaning s b (recorded s) m (inwards left) c.rewind_to.ensures.kept c.rewind_to.ensures.shorter fit;
-    }
+    back_fit g.T.TokenBank.meaning g.H.HookBank.meaning s b (recorded s) m (inwards left) c.rewind_to.ensures.kept c.rewind_to.ensures.shorter fit
 
 pub returns-in-Some-pop : goal.returns-in-Some-pop
 returns-in-Some-pop g c =

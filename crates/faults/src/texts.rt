@@ -1,4 +1,4 @@
-// Faults in print.
+// What faults print.
 ghost use Rattle.std.specs.Prelude.{Some};
 ghost use Rattle.faults.specs.Texts.{layer_text, report_text};
 

@@ -1,4 +1,4 @@
-// Calls in print.
+// What calls print.
 ghost use Rattle.std.specs.Prelude.{Some};
 ghost use Rattle.vault.specs.Texts.{call_text};
 

@@ -1,4 +1,4 @@
-// Actions in print.
+// What actions print.
 ghost use Rattle.std.specs.Prelude.{Some};
 ghost use Rattle.actions.specs.Texts.{action_text};
 

@@ -1,4 +1,4 @@
-// Lines in print.
+// What a call with its reply prints.
 ghost use Rattle.std.specs.Prelude.{Some};
 ghost use Rattle.runs.specs.Texts.{line_text};
 

@@ -1,4 +1,4 @@
-// Answers in print.
+// What answers print.
 ghost use Rattle.std.specs.Prelude.{Some};
 ghost use Rattle.store.specs.Texts.{answer_text};
 
