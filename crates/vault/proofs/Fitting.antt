@@ -58,6 +58,13 @@ module _ {T H : Type 0} where
         let low : m ≤ top = leb-true m top parts.0 in
         ap (λ w. w ∷ map (saved tokens hooks b) ms) (kept m (omega arith)) ∙ ap (λ ws. saved tokens hooks a m ∷ ws) (same_worlds n m ms kept (omega arith) (and_parts _ _ parts.1).1)
 
-    -- the journal is back at a mark
-    pub back_fit : (top m : ℕ) (ms : List ℕ) → Kept tokens hooks a b m → (recorded b) ≡ m → all_fit a top (m ∷ ms) ≡ true → all_fit b (recorded b) ((recorded b) ∷ ms) ≡ true
-    back_fit top m ms kept len e = subst (λ n. all_fit b n (n ∷ ms) ≡ true) (sym len) (same_fit m m (m ∷ ms) kept (omega arith) (itself a top m ms e))
+    -- the journal is back at the innermost mark: those outside it fit, and restore what they did
+    module _ (m : ℕ) (marks ms : List ℕ) (innermost : marks ≡ m ∷ ms) (kept : Kept tokens hooks a b m) (fit : all_fit a (recorded a) (recorded a ∷ marks) ≡ true) where
+      below : all_fit a m (m ∷ ms) ≡ true
+      below = itself a (recorded a) m ms (outer a (recorded a) (recorded a) (m ∷ ms) (subst (λ l. all_fit a (recorded a) (recorded a ∷ l) ≡ true) innermost fit))
+
+      pub back_fit : recorded b ≡ m → all_fit b (recorded b) (recorded b ∷ ms) ≡ true
+      back_fit len = subst (λ n. all_fit b n (n ∷ ms) ≡ true) (sym len) (same_fit m m (m ∷ ms) kept (omega arith) below)
+
+      pub back_worlds : map (saved tokens hooks b) ms ≡ map (saved tokens hooks a) ms
+      back_worlds = same_worlds m m ms kept (omega arith) (outer a m m ms below)

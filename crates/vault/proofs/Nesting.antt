@@ -15,6 +15,9 @@ use Rattle.vault.proofs.Fitting.{without}
 pub pushed : (marks : List ℕ) (m : ℕ) → inwards (marks ++ m ∷ []) ≡ m ∷ inwards marks
 pushed marks m = fold-append (λ outer mark. mark ∷ outer) (0 ∷ []) marks (m ∷ [])
 
+pub last_mark : (f : Option (ArrayVec ℕ)) (v : ArrayVec ℕ) (left : List ℕ) (m : ℕ) (gone : Option ℕ) → f ≡ Some v → v.items ≡ left ++ option_to_list gone → gone ≡ Some m → ends f ≡ m ∷ inwards left
+last_mark f v left m gone was split is = ap ends was ∙ ap inwards (split ∙ ap (λ r. left ++ option_to_list r) is) ∙ pushed left m
+
 -- a frame less
 pub shallow : (n : ℕ) → shallower (with_frames (suc n)) ≡ with_frames n
 shallow zero = refl

@@ -1,20 +1,16 @@
-use Rattle.std.proofs.Common.{◌≡◌, true, [], ◌∷◌, map, sym, ap, ◌∙◌, subst}
-use Rattle.store.specs.Saved.{world, recorded, saved}
+use Rattle.std.proofs.Common.{[], map, sym, ap, ◌∙◌}
+use Rattle.store.specs.Saved.{world, saved}
 use Rattle.vault.specs.declared.phase.Phase.TheVariants as phase
-use Rattle.vault.specs.Marks.{all_fit}
 use Rattle.vault.specs.Turns.{last_of}
-use Rattle.vault.proofs.Fitting.{outer, back_fit}
+use Rattle.vault.proofs.Fitting.{back_fit}
 use Rattle.vault.proofs.Nesting.{abandoned_ends}
 use Rattle.vault.proofs.vault.Vault.fail.Goals as goal
 
 pub invariant_of-self-clause-fit : goal.invariant_of-self-clause-fit
 invariant_of-self-clause-fit g c =
     let v = c.args.self.now in
-    let s = v.store in
-    let b = c.rewind_to.new.self in
-    let fit : all_fit s (recorded s) (0 ∷ []) ≡ true = subst (λ ms. all_fit s (recorded s) ms ≡ true) (abandoned_ends v.frames c.requires) (outer s (recorded s) (recorded s) _ v.fit) in
     let back = c.rewind_to.ensures in
-    back_fit g.T.TokenBank.meaning g.H.HookBank.meaning s b (recorded s) 0 [] back.kept back.shorter fit
+    back_fit g.T.TokenBank.meaning g.H.HookBank.meaning v.store c.rewind_to.new.self 0 _ [] (abandoned_ends v.frames c.requires) back.kept v.fit back.shorter
 
 pub returns : goal.returns
 returns g c =
