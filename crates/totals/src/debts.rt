@@ -4,7 +4,7 @@ ghost use Rattle.totals.specs.Totals.{deltas_in, is_open, open_deltas};
 
 use book::{Book, Currency};
 
-// What an account owes of one currency, or is owed.
+// The delta of one account.
 fn due(row: &[i64; 8], c: Currency) -> i64
     ensures { result ≡ get_or row.now c.number (pos 0) }
 {
