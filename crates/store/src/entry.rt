@@ -1,4 +1,7 @@
 // What one change took the place of.
+ghost use Rattle.std.specs.Prelude.{◌≡◌};
+ghost use Rattle.store.specs.declared.entry.Entry.TheVariants.{Number as number};
+
 use book::Cell;
 use tokens::Transfer;
 
@@ -13,7 +16,9 @@ pub enum Entry {
 
 // What stands in the free places of a journal: written out, since a derived default is of a variant that holds nothing.
 impl Default for Entry {
-    fn default() -> Entry {
+    fn default() -> Entry
+        ensures { result ≡ number 0 0 }
+    {
         Entry::Number(0, 0)
     }
 }
