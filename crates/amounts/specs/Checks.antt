@@ -10,3 +10,8 @@ need false fault rest = Err fault
 abbrev pub then : {X Y E : Type 0} → Result X E → Result Y E → Result Y E
 then (Ok answer) rest = rest
 then (Err fault) rest = Err fault
+
+-- the rest with the answer of the first, where that is no refusal
+abbrev pub with_ok : {X Y E : Type 0} → Result X E → (X → Result Y E) → Result Y E
+with_ok (Ok answer) rest = rest answer
+with_ok (Err fault) rest = Err fault

@@ -1,5 +1,5 @@
 // Shares of a pool: what a first deposit makes, what a deposit costs, what a withdrawal pays.
-ghost use Rattle.std.specs.Prelude.{◌≡◌, ◌<◌};
+ghost use Rattle.std.specs.Prelude.{◌≡◌, ◌+◌, ◌^◌, ◌<◌, IfSome};
 ghost use Rattle.amounts.specs.Shares.{root as whole_root, seeded as seeded_shares, cost, paid};
 
 use crate::LOCKED_SHARES;
@@ -13,7 +13,8 @@ fn root(n: u64) -> u32
 
 // The shares that the first depositor gets for `a` and `b`, or none where they are too few.
 pub fn seeded(a: u32, b: u32) -> Option<u32>
-    ensures { result ≡ seeded_shares a b }
+    ensures is { result ≡ seeded_shares a b }
+    ensures fits { IfSome result (λ s. s + 1000 < 2 ^ 32) }
 {
     let made = root(a as u64 * b as u64);
     if made <= LOCKED_SHARES {

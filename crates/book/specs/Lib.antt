@@ -1,3 +1,4 @@
 pub mod Cells
 pub mod Reads
 pub mod New
+pub mod Pools

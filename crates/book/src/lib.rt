@@ -4,10 +4,11 @@
 mod cell;
 mod ids;
 mod new;
+mod pools;
 mod reads;
 mod records;
 mod writes;
 
 pub use cell::Cell;
 pub use ids::{Account, Currency, PoolId};
-pub use records::{Allowed, Book, Mark, Pool, Pools};
+pub use records::{Allowed, Book, Mark, Pool, Pools, Terms};

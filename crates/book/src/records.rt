@@ -1,12 +1,19 @@
 // The plain records. They know nothing of sessions, of the journal or of the banks.
+use crate::ids::Currency;
 
-// A pool's currencies, curve and hook never change once it is made.
-#[derive(Clone, Copy)]
-pub struct Pool {
-    pub c0: u32,
-    pub c1: u32,
+// What a pool is made with, and keeps.
+#[derive(Clone, Copy, PartialEq, Eq)]
+pub struct Terms {
+    pub c0: Currency,
+    pub c1: Currency,
     pub curve: u32,
     pub hook: u32,
+}
+
+// What it holds of c0 and of c1, and all its shares, those that belong to nobody among them.
+#[derive(Clone, Copy)]
+pub struct Pool {
+    pub terms: Terms,
     pub x: u32,
     pub y: u32,
     pub total: u32,
@@ -18,8 +25,7 @@ pub struct Pools {
     pub rows: [Option<Pool>; 8],
 }
 
-// The vault's balance in one currency at a `sync`. The currency is a number, as in a pool: the definitions take numbers, and a tested one
-// holds a proof that they would have to give.
+// The vault's balance in one currency at a `sync`.
 #[derive(Clone, Copy)]
 pub struct Mark {
     pub currency: u32,

@@ -16,13 +16,13 @@ fn ranged(next: i128) -> Result<i64, Cause>
     Ok(next as i64)
 }
 
-pub fn lowered(delta: i64, by: u32) -> Result<i64, Cause>
+pub fn lowered(delta: i64, by: u64) -> Result<i64, Cause>
     ensures { MatchResult result (λ d. (d ≡ delta -ℤ pos by) × (in_range (delta -ℤ pos by) ≡ true)) (λ f. (f ≡ full) × (in_range (delta -ℤ pos by) ≡ false)) }
 {
     ranged(delta as i128 - by as i128)
 }
 
-pub fn raised(delta: i64, by: u32) -> Result<i64, Cause>
+pub fn raised(delta: i64, by: u64) -> Result<i64, Cause>
     ensures { MatchResult result (λ d. (d ≡ delta +ℤ pos by) × (in_range (delta +ℤ pos by) ≡ true)) (λ f. (f ≡ full) × (in_range (delta +ℤ pos by) ≡ false)) }
 {
     ranged(delta as i128 + by as i128)

@@ -3,9 +3,11 @@
 
 mod deltas;
 mod numbers;
+mod pools;
 
 pub use deltas::{exactly, lowered, raised};
 pub use numbers::{
     account, account_or_vault, amount, amount_or_none, apart, currency, flag, increased, step,
     step_in,
 };
+pub use pools::{Made, free_pool, pool};

@@ -92,11 +92,11 @@ pub fn step_in(session: bool, steps: u32) -> Result<u32, Cause>
 }
 
 // A claim or a holding after it rose, where it has room.
-pub fn increased(n: u32, by: u32) -> Result<u32, Cause>
+pub fn increased(n: u32, by: u64) -> Result<u32, Cause>
     ensures { MatchResult result (λ m. (m ≡ n + by) × (has_room (n + by) ≡ true)) (λ f. (f ≡ full) × (has_room (n + by) ≡ false)) }
 {
-    let sum = n as u64 + by as u64;
-    if sum > MOST as u64 {
+    let sum = n as u128 + by as u128;
+    if sum > MOST as u128 {
         return Err(Cause::Full);
     }
     Ok(sum as u32)

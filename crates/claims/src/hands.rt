@@ -35,7 +35,7 @@ pub fn hand<T: TokenBank, H: HookBank>(
     let steps = step_in(session, store.book().steps)?;
     let allowance = allowance_after(store.book(), caller, from, c, a)?;
     let left = decreased(store.book().claim(from, c), a)?;
-    let claim = increased(store.book().claim(to, c), a)?;
+    let claim = increased(store.book().claim(to, c), a as u64)?;
     store.commit(&[
         Cell::Allowance(from, caller, c, allowance),
         Cell::Claim(from, c, left),

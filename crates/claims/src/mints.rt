@@ -28,8 +28,8 @@ pub fn mint<T: TokenBank, H: HookBank>(
     let c = store.currency(c)?;
     amount(a)?;
     let steps = step(store.book().steps)?;
-    let delta = lowered(store.book().delta(who, c), a)?;
-    let claim = increased(store.book().claim(to, c), a)?;
+    let delta = lowered(store.book().delta(who, c), a as u64)?;
+    let claim = increased(store.book().claim(to, c), a as u64)?;
     store.commit(&[
         Cell::Delta(who, c, delta),
         Cell::Claim(to, c, claim),
@@ -55,7 +55,7 @@ pub fn burn<T: TokenBank, H: HookBank>(
     let steps = step(store.book().steps)?;
     let allowance = allowance_after(store.book(), who, from, c, a)?;
     let claim = decreased(store.book().claim(from, c), a)?;
-    let delta = raised(store.book().delta(who, c), a)?;
+    let delta = raised(store.book().delta(who, c), a as u64)?;
     store.commit(&[
         Cell::Allowance(from, who, c, allowance),
         Cell::Claim(from, c, claim),

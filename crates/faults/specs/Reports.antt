@@ -116,5 +116,8 @@ report_of f = record { number = number_of f.cause; layer = layer_of f.cause; hop
 abbrev pub unplaced : Cause → VaultFault
 unplaced c = record { cause = c; pool = None }
 
+abbrev pub placed : Cause → ℕ → VaultFault
+placed c p = record { cause = c; pool = Some p }
+
 abbrev pub by_token : TokenFault → VaultFault
 by_token e = unplaced (cause.Token e)

@@ -1,6 +1,6 @@
 // What a fault tells: its number, its layer and its place.
 ghost use Rattle.std.specs.Prelude.{◌≡◌};
-ghost use Rattle.faults.specs.Reports.{number_of, layer_of, reason_of, report_of, unplaced, by_token};
+ghost use Rattle.faults.specs.Reports.{number_of, layer_of, reason_of, report_of, unplaced, placed, by_token};
 
 use crate::cause::{Cause, VaultFault};
 use hooks::HookFault;
@@ -80,6 +80,18 @@ impl Cause {
         match self {
             Cause::Hook(HookFault::Denied(reason)) => Some(reason as u32),
             _ => None,
+        }
+    }
+}
+
+impl Cause {
+    // The fault of a call that concerns this pool.
+    pub fn in_pool(self, pool: u32) -> VaultFault
+        ensures { result ≡ placed self pool }
+    {
+        VaultFault {
+            cause: self,
+            pool: Some(pool),
         }
     }
 }

@@ -58,7 +58,7 @@ pub fn settle<T: TokenBank, H: HookBank>(
     let steps = step(store.book().steps)?;
     let balance = store.balance(c)?;
     let credit = since(store.book().mark, c, balance)?;
-    let delta = raised(store.book().delta(who, c), credit)?;
+    let delta = raised(store.book().delta(who, c), credit as u64)?;
     store.commit(&[
         Cell::Delta(who, c, delta),
         Cell::Mark(None),

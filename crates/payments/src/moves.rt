@@ -39,7 +39,7 @@ pub fn take<T: TokenBank, H: HookBank>(
     amount(a)?;
     let steps = step(store.book().steps)?;
     covered(store.balance(c)?, a)?;
-    let delta = lowered(store.book().delta(who, c), a)?;
+    let delta = lowered(store.book().delta(who, c), a as u64)?;
     let cells = [Cell::Delta(who, c, delta), Cell::Steps(steps)];
     let transfer = Transfer {
         currency: c.number,

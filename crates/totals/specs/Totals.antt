@@ -6,7 +6,7 @@ use Rattle.book.specs.declared.records.Pool.{Pool}
 -- what one pool holds of a currency
 abbrev pub held : Option Pool → ℕ → ℕ
 held None c = 0
-held (Some p) c = cond (p.c0 == c) p.x 0 + cond (p.c1 == c) p.y 0
+held (Some p) c = cond (p.terms.c0.number == c) p.x 0 + cond (p.terms.c1.number == c) p.y 0
 
 abbrev pub pools_in : Book → ℕ → ℕ
 pools_in b c = sum_by (λ p. held p c) b.pools.rows

@@ -10,8 +10,8 @@ fn held(pool: &Option<Pool>, c: Currency) -> u64
     ensures fits { result ≤ 8589934590 }
 {
     let Some(pool) = pool else { return 0 };
-    let x = if pool.c0 == c.number { pool.x } else { 0 };
-    let y = if pool.c1 == c.number { pool.y } else { 0 };
+    let x = if pool.terms.c0 == c { pool.x } else { 0 };
+    let y = if pool.terms.c1 == c { pool.y } else { 0 };
     x as u64 + y as u64
 }
 

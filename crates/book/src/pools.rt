@@ -1,0 +1,36 @@
+// Which pools are made.
+ghost use Rattle.std.specs.Prelude.{◌≡◌, ◌<◌, Some, None, IfSome, MatchOption};
+ghost use Rattle.book.specs.Pools.{free_pool, has_pool};
+
+use crate::ids::PoolId;
+use crate::records::{Book, Terms};
+
+impl Book {
+    fn first_free(&self) -> Option<usize>
+        ensures is { result ≡ free_pool self.now }
+        ensures within { IfSome result (λ n. n < 8) }
+    {
+        self.pools.rows.iter().position(|pool| pool.is_none())
+    }
+
+    // The number of the next pool, where there is room for one.
+    pub fn free_pool(&self) -> Option<PoolId>
+        ensures { MatchOption result (free_pool self.now ≡ None) (λ p. free_pool self.now ≡ Some p.number) }
+    {
+        match self.first_free() {
+            Some(number) => Some(PoolId {
+                number: number as u32,
+            }),
+            None => None,
+        }
+    }
+
+    pub fn has_pool(&self, terms: Terms) -> bool
+        ensures { result ≡ has_pool self.now terms }
+    {
+        self.pools
+            .rows
+            .iter()
+            .any(|pool| pool.is_some_and(|pool| pool.terms == terms))
+    }
+}
