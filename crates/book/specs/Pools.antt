@@ -1,9 +1,22 @@
 -- Which pools are made. Assumes nothing.
-use Rattle.std.specs.Prelude.{ℕ, Bool, false, ◌&&◌, Some, None, Option, is_none, ◌==◌}
+use Rattle.std.specs.Prelude.{ℕ, ◌%◌, Bool, false, ◌&&◌, Some, None, Option, is_none, ◌==◌}
 use Rattle.std.specs.List.{list_any, position}
+use Rattle.std.proofs.Common.{arith}
+use Rattle.std.proofs.Math.Nat.{mod-lt}
+use Rattle.book.specs.declared.ids.Currency.{Currency}
 use Rattle.book.specs.declared.records.Book.{Book}
 use Rattle.book.specs.declared.records.Pool.{Pool}
 use Rattle.book.specs.declared.records.Terms.{Terms}
+
+-- the currency of a number below 8
+unfoldable pub currency : ℕ → Currency
+currency n = record { number = n % 8; within = mod-lt n (omega arith) }
+
+abbrev pub terms : ℕ → ℕ → ℕ → ℕ → Terms
+terms c0 c1 curve hook = record { c0 = currency c0; c1 = currency c1; curve = curve; hook = hook }
+
+abbrev pub empty_pool : Terms → Pool
+empty_pool t = record { terms = t; x = 0; y = 0; total = 0 }
 
 -- pools are numbered as they are made, so the next one has the first number that none has
 abbrev pub free_pool : Book → Option ℕ

@@ -1,9 +1,31 @@
 // Which pools are made.
 ghost use Rattle.std.specs.Prelude.{◌≡◌, ◌<◌, Some, None, IfSome, MatchOption};
-ghost use Rattle.book.specs.Pools.{free_pool, has_pool};
+ghost use Rattle.book.specs.Pools.{free_pool, has_pool, terms, empty_pool};
 
-use crate::ids::PoolId;
-use crate::records::{Book, Terms};
+use crate::ids::{Currency, PoolId};
+use crate::records::{Book, Pool, Terms};
+
+impl Terms {
+    #[tactic(auto, using(crate::proofs::Currencies::same_currency))]
+    pub fn new(c0: Currency, c1: Currency, curve: u32, hook: u32) -> Terms
+        ensures { result ≡ terms c0.number c1.number curve hook }
+    {
+        Terms { c0, c1, curve, hook }
+    }
+}
+
+impl Pool {
+    pub fn empty(terms: Terms) -> Pool
+        ensures { result ≡ empty_pool terms }
+    {
+        Pool {
+            terms,
+            x: 0,
+            y: 0,
+            total: 0,
+        }
+    }
+}
 
 impl Book {
     fn first_free(&self) -> Option<usize>

@@ -1,5 +1,5 @@
 -- What deposits and withdrawals come to, on what holds. Assumes nothing.
-use Rattle.std.specs.Prelude.{ℕ, ◌+◌, ◌-◌, ◌*◌, not, ◌&&◌, Some, None, Option, Ok, Err, Result, ℤ, pos, ◌+ℤ◌, ◌-ℤ◌, get_or, ◌==◌, nat_le}
+use Rattle.std.specs.Prelude.{nat_lt, ℕ, ◌+◌, ◌-◌, ◌*◌, not, ◌&&◌, Some, None, Option, Ok, Err, Result, ℤ, pos, ◌+ℤ◌, ◌-ℤ◌, get_or, ◌==◌, nat_le}
 use Rattle.amounts.specs.Checks.{need as tested, with_ok}
 use Rattle.amounts.specs.Rows.{at2}
 use Rattle.amounts.specs.Shares.{root, cost, paid}
@@ -7,8 +7,10 @@ use Rattle.book.specs.declared.records.Book.{Book}
 use Rattle.book.specs.declared.records.Pool.{Pool}
 use Rattle.book.specs.declared.records.Terms.{Terms}
 use Rattle.book.specs.Cells.{with_pool, with_share, with_delta, with_steps}
+use Rattle.book.specs.Pools.{terms, empty_pool, free_pool, has_pool}
 use Rattle.book.specs.Reads.{delta}
-use Rattle.checks.specs.Tests.{is_account, is_amount, has_step, has_room, in_range}
+use Rattle.curves.specs.Meaning.{Curves}
+use Rattle.checks.specs.Tests.{is_account, is_currency, is_amount, has_step, has_room, in_range}
 use Rattle.faults.specs.declared.cause.Cause.{Cause}
 use Rattle.faults.specs.declared.cause.Cause.TheVariants as cause
 use Rattle.faults.specs.Reports.{unplaced, placed}
@@ -36,6 +38,21 @@ changed b who p c steps =
 abbrev pub in_pool : {A : Type 0} → World → ℕ → ℕ → Result (A × Change) Cause → Outcome A
 in_pool w who p (Err c) = refused (placed c p)
 in_pool w who p (Ok r) = done r.0 (with_book w (changed w.book who p r.1 (w.book.steps + 1)))
+
+-- the next pool's number, where there is room for one
+abbrev pub numbered : {A : Type 0} → Option ℕ → (ℕ → Outcome A) → Outcome A
+numbered None rest = refused (unplaced cause.PoolsFull)
+numbered (Some n) rest = rest n
+
+abbrev pub pool : Curves → World → ℕ → ℕ → ℕ → ℕ → Outcome ℕ
+pool k w c0 c1 curve hook =
+    need (is_currency w.tokens.count c0) cause.Currency
+    (need (is_currency w.tokens.count c1) cause.Currency
+    (need (nat_lt curve k.count && nat_lt hook w.hooks.count) cause.CurveOrHook
+    (need (nat_lt c0 c1) cause.CurrencyOrder
+    (need (not (has_pool w.book (terms c0 c1 curve hook))) cause.PoolExists
+    (numbered (free_pool w.book) (λ n.
+    done n (with_book w (with_pool w.book n (Some (empty_pool (terms c0 c1 curve hook)))))))))))
 
 -- the deltas of an account after a cost in both currencies of a pool, and after a credit in both
 abbrev pub both_in_range : ℤ → ℤ → Result Deltas Cause

@@ -1,5 +1,5 @@
 // Changes that are recorded.
-ghost use Rattle.std.specs.Prelude.{◌≡◌, ◌+◌, ◌<◌, ◌≤◌, true, false, length, take, MatchResult};
+ghost use Rattle.std.specs.Prelude.{◌≡◌, ◌+◌, ◌<◌, ◌≤◌, true, false, length, take, MatchResult, nat_lt};
 ghost use Rattle.checks.specs.Tests.{is_currency};
 ghost use Rattle.faults.specs.declared.cause.Cause.TheVariants.{Currency as no_currency};
 ghost use Rattle.book.specs.Cells.{written};
@@ -39,6 +39,13 @@ impl<T: TokenBank, H: HookBank> Store<T, H> {
             (λ f. (f ≡ no_currency) × (is_currency (T.TokenBank.meaning self.now.held.tokens).count number ≡ false)) }
     {
         currency(self.held.tokens.count(), number)
+    }
+
+    // Whether the hook bank has such a hook.
+    pub fn has_hook(&self, number: u32) -> bool
+        ensures { result ≡ nat_lt number (H.HookBank.meaning self.now.held.hooks).count }
+    {
+        number < self.held.hooks.count()
     }
 
     // The vault's own balance.
