@@ -11,6 +11,11 @@ abbrev pub then : {X Y E : Type 0} → Result X E → Result Y E → Result Y E
 then (Ok answer) rest = rest
 then (Err fault) rest = Err fault
 
+-- a result whose fault rises
+abbrev pub raised : {X E F : Type 0} → (E → F) → Result X E → Result X F
+raised by (Ok answer) = Ok answer
+raised by (Err fault) = Err (by fault)
+
 -- the rest with the answer of the first, where that is no refusal
 abbrev pub with_ok : {X Y E : Type 0} → Result X E → (X → Result Y E) → Result Y E
 with_ok (Ok answer) rest = rest answer

@@ -1,5 +1,5 @@
 -- Which pools are made. Assumes nothing.
-use Rattle.std.specs.Prelude.{ℕ, ◌%◌, Bool, false, ◌&&◌, Some, None, Option, is_none, ◌==◌}
+use Rattle.std.specs.Prelude.{ℕ, ◌+◌, ◌-◌, ◌%◌, Bool, cond, false, ◌&&◌, Some, None, Option, is_none, ◌==◌}
 use Rattle.std.specs.List.{list_any, position}
 use Rattle.std.proofs.Common.{arith}
 use Rattle.std.proofs.Math.Nat.{mod-lt}
@@ -17,6 +17,13 @@ terms c0 c1 curve hook = record { c0 = currency c0; c1 = currency c1; curve = cu
 
 abbrev pub empty_pool : Terms → Pool
 empty_pool t = record { terms = t; x = 0; y = 0; total = 0 }
+
+-- the holding on the in side of a direction
+abbrev pub in_side : ℕ → Pool → ℕ
+in_side direction l = cond (direction == 0) l.x l.y
+
+abbrev pub exchanged : Pool → ℕ → ℕ → ℕ → Pool
+exchanged l direction a b = cond (direction == 0) (record l { x = l.x + a; y = l.y - b }) (record l { x = l.x - b; y = l.y + a })
 
 -- pools are numbered as they are made, so the next one has the first number that none has
 abbrev pub free_pool : Book → Option ℕ

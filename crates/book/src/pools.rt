@@ -1,6 +1,6 @@
 // Which pools are made.
-ghost use Rattle.std.specs.Prelude.{◌≡◌, ◌<◌, Some, None, IfSome, MatchOption};
-ghost use Rattle.book.specs.Pools.{free_pool, has_pool, terms, empty_pool};
+ghost use Rattle.std.specs.Prelude.{◌≡◌, ◌+◌, ◌^◌, ◌<◌, Some, None, IfSome, MatchOption};
+ghost use Rattle.book.specs.Pools.{free_pool, has_pool, terms, empty_pool, in_side, exchanged};
 
 use crate::ids::{Currency, PoolId};
 use crate::records::{Book, Pool, Terms};
@@ -23,6 +23,26 @@ impl Pool {
             x: 0,
             y: 0,
             total: 0,
+        }
+    }
+
+    // So much in and so much out; what goes out of a holding is never more than it, by the laws of curves.
+    pub fn exchanged(self, direction: u32, input: u32, output: u32) -> Pool
+        requires { in_side direction self + input < 2 ^ 32 }
+        ensures { result ≡ exchanged self direction input output }
+    {
+        if direction == 0 {
+            Pool {
+                x: self.x + input,
+                y: self.y.saturating_sub(output),
+                ..self
+            }
+        } else {
+            Pool {
+                x: self.x.saturating_sub(output),
+                y: self.y + input,
+                ..self
+            }
         }
     }
 }

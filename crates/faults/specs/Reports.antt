@@ -1,5 +1,6 @@
 -- What each fault tells. Assumes nothing.
 use Rattle.std.specs.Prelude.{ℕ, Some, None, Option}
+use Rattle.curves.specs.declared.bank.CurveFault.{CurveFault}
 use Rattle.hooks.specs.declared.bank.HookFault.{HookFault}
 use Rattle.hooks.specs.declared.bank.HookFault.TheVariants as hook
 use Rattle.tokens.specs.declared.bank.TokenFault.{TokenFault}
@@ -118,6 +119,12 @@ unplaced c = record { cause = c; pool = None }
 
 abbrev pub placed : Cause → ℕ → VaultFault
 placed c p = record { cause = c; pool = Some p }
+
+abbrev pub by_curve : CurveFault → Cause
+by_curve e = cause.Curve e
+
+abbrev pub by_hook : HookFault → Cause
+by_hook e = cause.Hook e
 
 abbrev pub by_token : TokenFault → VaultFault
 by_token e = unplaced (cause.Token e)

@@ -1,8 +1,9 @@
 // What a fault tells: its number, its layer and its place.
 ghost use Rattle.std.specs.Prelude.{◌≡◌};
-ghost use Rattle.faults.specs.Reports.{number_of, layer_of, reason_of, report_of, unplaced, placed, by_token};
+ghost use Rattle.faults.specs.Reports.{number_of, layer_of, reason_of, report_of, unplaced, placed, by_curve, by_hook, by_token};
 
 use crate::cause::{Cause, VaultFault};
+use curves::CurveFault;
 use hooks::HookFault;
 use tokens::TokenFault;
 
@@ -119,6 +120,22 @@ impl From<Cause> for VaultFault {
             cause: e,
             pool: None,
         }
+    }
+}
+
+impl From<CurveFault> for Cause {
+    ghost from_gives = { λ e r. r ≡ by_curve e };
+
+    fn from(e: CurveFault) -> Cause {
+        Cause::Curve(e)
+    }
+}
+
+impl From<HookFault> for Cause {
+    ghost from_gives = { λ e r. r ≡ by_hook e };
+
+    fn from(e: HookFault) -> Cause {
+        Cause::Hook(e)
     }
 }
 

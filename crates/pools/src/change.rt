@@ -33,7 +33,7 @@ impl Change {
         id: PoolId,
         steps: u32,
     )
-        requires { recorded store.old + 5 ≤ 384 }
+        requires { recorded store.old + 5 ≤ 390 }
         ensures { Changed T.TokenBank.meaning H.HookBank.meaning store.old store.new 5
             (with_book (world T.TokenBank.meaning H.HookBank.meaning store.old.held) (changed store.old.held.book who.number id.number self steps)) }
     {

@@ -21,7 +21,7 @@ need true cause rest = rest
 need false cause rest = refused (unplaced cause)
 
 module _ {T H : Type 0} (tokens : T → Tokens) (hooks : H → Hooks) where
-  -- the world is now w, by at most five entries more, and earlier marks restore what they did
+  -- the world is now w, by at most six entries more, and earlier marks restore what they did
   pub record Stepped (before after : Store T H) (w : World) : Type 0 where
     pub now : world tokens hooks after.held ≡ w
     pub longer : Grows (recorded before) (recorded after)

@@ -8,14 +8,14 @@ use Rattle.store.specs.declared.entry.Entry.TheVariants as entry
 use Rattle.store.specs.declared.state.Store.{Store}
 use Rattle.store.specs.Saved.{recorded}
 
--- how many entries the journal has before a call and after it: none is taken away, and at most five are written
+-- how many entries the journal has before a call and after it: none is taken away, and at most six are written
 abbrev pub Grows : ℕ → ℕ → Type 0
-Grows before after = (before ≤ after) × (after ≤ before + 5)
+Grows before after = (before ≤ after) × (after ≤ before + 6)
 
 -- six places are free, and no call takes more. Each call asks for it, and no type keeps it: between calls a store may be full, and only
 -- the vault can tell from its step count that it is not
 abbrev pub HasRoom : {T H : Type 0} → Store T H → Type 0
-HasRoom s = recorded s ≤ 378
+HasRoom s = recorded s ≤ 384
 
 abbrev pub cell_steps : ℕ → Cell → ℕ
 cell_steps n (cell.Pool p to) = n

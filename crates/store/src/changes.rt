@@ -1,9 +1,9 @@
 // Changes that are recorded.
-ghost use Rattle.std.specs.Prelude.{◌≡◌, ◌+◌, ◌<◌, ◌≤◌, true, false, length, take, MatchResult, nat_lt};
+ghost use Rattle.std.specs.Prelude.{◌≡◌, ◌+◌, ◌<◌, ◌≤◌, true, false, Ok, Err, length, take, MatchResult, nat_lt};
 ghost use Rattle.checks.specs.Tests.{is_currency};
 ghost use Rattle.faults.specs.declared.cause.Cause.TheVariants.{Currency as no_currency};
 ghost use Rattle.book.specs.Cells.{written};
-ghost use Rattle.hooks.specs.Meaning.{known_answer, told};
+ghost use Rattle.hooks.specs.Meaning.{known_answer, ask_answer, payee_answer, told};
 ghost use Rattle.tokens.specs.Moves.{balance_answer, transfer_answer, after_transfer};
 ghost use Rattle.tokens.specs.Meaning.{moved};
 ghost use Rattle.store.specs.Saved.{world, recorded, saved, Kept, Changed};
@@ -11,7 +11,7 @@ ghost use Rattle.store.specs.World.{with_book, with_tokens, with_hooks, all_writ
 
 use crate::entry::Entry;
 use crate::state::Store;
-use book::{Book, Cell, Currency};
+use book::{Account, Book, Cell, Currency};
 use checks::currency;
 use faults::Cause;
 use hooks::{HookBank, HookFault, Passage};
@@ -55,9 +55,26 @@ impl<T: TokenBank, H: HookBank> Store<T, H> {
         self.held.tokens.balance(c.number, 0)
     }
 
+    // What a hook says to a passage.
+    pub fn ask(&self, p: Passage) -> Result<u32, HookFault>
+        ensures { result ≡ ask_answer (H.HookBank.meaning self.now.held.hooks) p.hook p.input p.output }
+    {
+        self.held.hooks.ask(p)
+    }
+
+    // Whose claims a hook's tolls are.
+    pub fn payee(&self, hook: u32) -> Result<Account, HookFault>
+        ensures { MatchResult result
+            (λ a. payee_answer (H.HookBank.meaning self.now.held.hooks) hook ≡ Ok a.number)
+            (λ f. payee_answer (H.HookBank.meaning self.now.held.hooks) hook ≡ Err f) }
+    {
+        let number = self.held.hooks.payee(hook)?;
+        Ok(Account { number })
+    }
+
     // Writes a cell of the book.
     fn write(&mut self, cell: Cell)
-        requires { recorded self.old < 384 }
+        requires { recorded self.old < 390 }
         ensures { Changed T.TokenBank.meaning H.HookBank.meaning self.old self.new 1
             (with_book (world T.TokenBank.meaning H.HookBank.meaning self.old.held) (written self.old.held.book cell)) }
     {
@@ -67,7 +84,7 @@ impl<T: TokenBank, H: HookBank> Store<T, H> {
 
     // Writes cells of the book, one after the other.
     pub fn commit(&mut self, cells: &[Cell])
-        requires { recorded self.old + length cells.now ≤ 384 }
+        requires { recorded self.old + length cells.now ≤ 390 }
         ensures { Changed T.TokenBank.meaning H.HookBank.meaning self.old self.new (length cells.now)
             (with_book (world T.TokenBank.meaning H.HookBank.meaning self.old.held) (all_written self.old.held.book cells.now)) }
     {
@@ -78,7 +95,7 @@ impl<T: TokenBank, H: HookBank> Store<T, H> {
 
     // Moves tokens; a refused move records nothing.
     pub fn transfer(&mut self, t: Transfer) -> Result<u32, TokenFault>
-        requires { recorded self.old < 384 }
+        requires { recorded self.old < 390 }
         ensures answers { result ≡ transfer_answer (T.TokenBank.meaning self.old.held.tokens) t.currency t.from t.to t.amount }
         ensures leaves { Changed T.TokenBank.meaning H.HookBank.meaning self.old self.new (entries result)
             (with_tokens (world T.TokenBank.meaning H.HookBank.meaning self.old.held) (after_transfer (T.TokenBank.meaning self.old.held.tokens) t.currency t.from t.to t.amount)) }
@@ -90,7 +107,7 @@ impl<T: TokenBank, H: HookBank> Store<T, H> {
 
     // Moves tokens and writes cells; where the move is refused, neither.
     pub fn transfer_with(&mut self, t: Transfer, cells: &[Cell]) -> Result<u32, TokenFault>
-        requires { recorded self.old + 1 + length cells.now ≤ 384 }
+        requires { recorded self.old + 1 + length cells.now ≤ 390 }
         ensures answers { result ≡ transfer_answer (T.TokenBank.meaning self.old.held.tokens) t.currency t.from t.to t.amount }
         ensures leaves { MatchResult result
             (λ _. Changed T.TokenBank.meaning H.HookBank.meaning self.old self.new (1 + length cells.now)
@@ -104,7 +121,7 @@ impl<T: TokenBank, H: HookBank> Store<T, H> {
 
     // Tells a hook; an unknown hook is refused, and nothing is recorded.
     pub fn tell(&mut self, p: Passage) -> Result<(), HookFault>
-        requires { recorded self.old < 384 }
+        requires { recorded self.old < 390 }
         ensures answers { result ≡ known_answer (H.HookBank.meaning self.old.held.hooks) p.hook }
         ensures leaves { Changed T.TokenBank.meaning H.HookBank.meaning self.old self.new (entries result)
             (with_hooks (world T.TokenBank.meaning H.HookBank.meaning self.old.held) (told (H.HookBank.meaning self.old.held.hooks) p.hook p.input p.output)) }

@@ -15,5 +15,5 @@ pub struct Held<T, H> {
 #[derive(Drop)]
 pub struct Store<T, H> {
     pub(crate) held: Held<T, H>,
-    pub(crate) log: ArrayVec<Entry, 384>,
+    pub(crate) log: ArrayVec<Entry, 390>,
 }

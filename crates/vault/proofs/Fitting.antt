@@ -48,7 +48,7 @@ module _ {T H : Type 0} where
         let parts = and_parts _ _ e in
         let low : m ≤ top = leb-true m top parts.0 in
         let inner = and_parts _ _ parts.1 in
-        let here : fits b m ≡ true = subst (λ k. (leb m (5 * k) && leb k 64) ≡ true) (sym (same_steps n m kept (omega arith))) inner.0 in
+        let here : fits b m ≡ true = subst (λ k. (leb m (6 * k) && leb k 64) ≡ true) (sym (same_steps n m kept (omega arith))) inner.0 in
         and_from _ _ parts.0 (and_from _ _ here (same_fit n m ms kept (omega arith) inner.1))
 
     pub same_worlds : (n top : ℕ) (ms : List ℕ) → Kept tokens hooks a b n → top ≤ n → all_fit a top ms ≡ true → map (saved tokens hooks b) ms ≡ map (saved tokens hooks a) ms

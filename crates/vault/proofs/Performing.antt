@@ -59,16 +59,16 @@ locked_ends (Some marks) e = cc e
 
 module _ {T H : Type 0} where
   -- the room after the last entry
-  last_fits : (s : Store T H) (ms : List ℕ) → all_fit s (recorded s) ((recorded s) ∷ ms) ≡ true → ((recorded s) ≤ 5 * s.held.book.steps) × (s.held.book.steps ≤ 64)
+  last_fits : (s : Store T H) (ms : List ℕ) → all_fit s (recorded s) ((recorded s) ∷ ms) ≡ true → ((recorded s) ≤ 6 * s.held.book.steps) × (s.held.book.steps ≤ 64)
   last_fits s ms e =
-      let here = and_parts (leb (recorded s) (5 * steps_at s (recorded s))) _ (and_parts (fits s (recorded s)) _ (and_parts (leb (recorded s) (recorded s)) _ e).1).0 in
-      (subst (λ n. (recorded s) ≤ 5 * n) (steps_now s) (leb-true _ _ here.0), subst (λ n. n ≤ 64) (steps_now s) (leb-true _ _ here.1))
+      let here = and_parts (leb (recorded s) (6 * steps_at s (recorded s))) _ (and_parts (fits s (recorded s)) _ (and_parts (leb (recorded s) (recorded s)) _ e).1).0 in
+      (subst (λ n. (recorded s) ≤ 6 * n) (steps_now s) (leb-true _ _ here.0), subst (λ n. n ≤ 64) (steps_now s) (leb-true _ _ here.1))
 
   -- the marks fit, if there is room after the last entry
-  with_room : (s : Store T H) (ms : List ℕ) → (recorded s) ≤ 5 * s.held.book.steps → s.held.book.steps ≤ 64 → all_fit s (recorded s) ms ≡ true → all_fit s (recorded s) ((recorded s) ∷ ms) ≡ true
+  with_room : (s : Store T H) (ms : List ℕ) → (recorded s) ≤ 6 * s.held.book.steps → s.held.book.steps ≤ 64 → all_fit s (recorded s) ms ≡ true → all_fit s (recorded s) ((recorded s) ∷ ms) ≡ true
   with_room s ms long few e =
       and_from _ _ (le-leb (recorded s) (recorded s) (omega arith))
-      (and_from (fits s (recorded s)) _ (and_from _ _ (le-leb _ _ (subst (λ n. (recorded s) ≤ 5 * n) (sym (steps_now s)) long)) (le-leb _ _ (subst (λ n. n ≤ 64) (sym (steps_now s)) few))) e)
+      (and_from (fits s (recorded s)) _ (and_from _ _ (le-leb _ _ (subst (λ n. (recorded s) ≤ 6 * n) (sym (steps_now s)) long)) (le-leb _ _ (subst (λ n. n ≤ 64) (sym (steps_now s)) few))) e)
 
   module _ (tokens : T → Tokens) (hooks : H → Hooks) (a b : Store T H) (ms : List ℕ) (fit : all_fit a (recorded a) ((recorded a) ∷ ms) ≡ true) where
     -- what an accepted action does to the step count

@@ -35,9 +35,9 @@ at_rest None len = len == 0
 at_rest (Some marks) len = true
 
 module _ {T H : Type 0} where
-  -- at most five entries for each step, and at most 64 steps
+  -- at most six entries for each step, and at most 64 steps
   abbrev pub fits : Store T H → ℕ → Bool
-  fits s n = nat_le n (5 * steps_at s n) && nat_le (steps_at s n) 64
+  fits s n = nat_le n (6 * steps_at s n) && nat_le (steps_at s n) 64
 
   -- marks from the innermost outwards, none above the one before it
   abbrev pub all_fit : Store T H → ℕ → List ℕ → Bool

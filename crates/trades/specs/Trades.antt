@@ -1,0 +1,90 @@
+-- What exchanges with a pool come to, on what holds. Assumes nothing.
+use Rattle.std.specs.Prelude.{ℕ, ◌+◌, ◌-◌, Bool, cond, not, Some, None, Option, Ok, Err, Result, pos, ◌+ℤ◌, ◌-ℤ◌, get_or, ◌==◌}
+use Rattle.amounts.specs.Checks.{need as tested, raised, with_ok}
+use Rattle.book.specs.declared.records.Book.{Book}
+use Rattle.book.specs.declared.records.Pool.{Pool}
+use Rattle.book.specs.declared.records.Terms.{Terms}
+use Rattle.book.specs.Cells.{with_pool, with_claim, with_delta, with_steps}
+use Rattle.book.specs.Pools.{exchanged}
+use Rattle.book.specs.Reads.{delta, claim}
+use Rattle.checks.specs.Tests.{is_account, is_amount, is_flag, has_step, has_room, in_range}
+use Rattle.curves.specs.Answers.{answered}
+use Rattle.curves.specs.Meaning.{Curves}
+use Rattle.faults.specs.declared.cause.Cause.{Cause}
+use Rattle.faults.specs.declared.cause.Cause.TheVariants as cause
+use Rattle.faults.specs.Reports.{unplaced, placed, by_curve, by_hook}
+use Rattle.hooks.specs.Meaning.{ask_answer, told}
+use Rattle.store.specs.Outcome.{Outcome, refused, done, need}
+use Rattle.store.specs.World.{World, with_book, with_hooks}
+
+-- what a call on a pool comes to, where the pool is made
+abbrev pub known : {A : Type 0} → Option Pool → (Pool → Outcome A) → Outcome A
+known None rest = refused (unplaced cause.Pool)
+known (Some l) rest = rest l
+
+-- a refusal of this pool, or an answer with what holds then
+abbrev pub in_pool : {A : Type 0} → ℕ → Result (A × World) Cause → Outcome A
+in_pool p (Err c) = refused (placed c p)
+in_pool p (Ok r) = done r.0 r.1
+
+-- the currencies that go in and out
+abbrev pub goes_in : ℕ → Terms → ℕ
+goes_in direction t = cond (direction == 0) t.c0.number t.c1.number
+
+abbrev pub comes_out : ℕ → Terms → ℕ
+comes_out direction t = cond (direction == 0) t.c1.number t.c0.number
+
+-- who pays a and is credited b less the toll, which is the payee's; the hook is told
+abbrev pub traded : World → ℕ → ℕ → Pool → ℕ → ℕ → ℕ → ℕ → World
+traded w who p l direction a b toll =
+    let book = w.book in
+    let i = goes_in direction l.terms in
+    let o = comes_out direction l.terms in
+    let payee = w.hooks.payee l.terms.hook in
+    with_book (with_hooks w (told w.hooks l.terms.hook a b))
+    (with_steps (with_claim (with_delta (with_delta (with_pool book p (Some (exchanged l direction a b))) who i (delta book who i -ℤ pos a)) who o (delta book who o +ℤ pos (b - toll))) payee o (claim book payee o + toll)) (book.steps + 1))
+
+-- the toll of an exchange of a for b, with what holds then
+abbrev pub exchange : World → ℕ → ℕ → Pool → ℕ → ℕ → ℕ → Result (ℕ × World) Cause
+exchange w who p l direction a b =
+    let book = w.book in
+    let i = goes_in direction l.terms in
+    let o = comes_out direction l.terms in
+    with_ok (raised by_hook (ask_answer w.hooks l.terms.hook a b)) (λ toll.
+    tested (in_range (delta book who i -ℤ pos a)) cause.Full
+    (tested (in_range (delta book who o +ℤ pos (b - toll))) cause.Full
+    (tested (has_room (claim book (w.hooks.payee l.terms.hook) o + toll)) cause.Full
+    (Ok (toll, traded w who p l direction a b toll)))))
+
+-- what is credited, and the toll
+abbrev pub sold : Curves → World → ℕ → ℕ → Pool → ℕ → ℕ → Result ((ℕ × ℕ) × World) Cause
+sold k w who p l direction a =
+    tested (not (l.total == 0)) cause.Shares
+    (with_ok (raised by_curve (answered (k.buy l.terms.curve direction l.x l.y a))) (λ b.
+    tested (not (b == 0)) cause.Nothing
+    (with_ok (exchange w who p l direction a b) (λ r. Ok ((b - r.0, r.0), r.1)))))
+
+-- what is paid, and the toll
+abbrev pub bought : Curves → World → ℕ → ℕ → Pool → ℕ → ℕ → Result ((ℕ × ℕ) × World) Cause
+bought k w who p l direction b =
+    tested (not (l.total == 0)) cause.Shares
+    (with_ok (raised by_curve (answered (k.price l.terms.curve direction l.x l.y b))) (λ a.
+    with_ok (exchange w who p l direction a b) (λ r. Ok ((a, r.0), r.1))))
+
+abbrev pub swap : Curves → World → ℕ → ℕ → ℕ → ℕ → Outcome (ℕ × ℕ)
+swap k w who p direction a =
+    need (is_account who) cause.Account
+    (known (get_or w.book.pools.rows p None) (λ l.
+    need (is_flag direction) cause.Choice
+    (need (is_amount a) cause.Amount
+    (need (has_step w.book.steps) cause.Steps
+    (in_pool p (sold k w who p l direction a))))))
+
+abbrev pub want : Curves → World → ℕ → ℕ → ℕ → ℕ → Outcome (ℕ × ℕ)
+want k w who p direction b =
+    need (is_account who) cause.Account
+    (known (get_or w.book.pools.rows p None) (λ l.
+    need (is_flag direction) cause.Choice
+    (need (is_amount b) cause.Amount
+    (need (has_step w.book.steps) cause.Steps
+    (in_pool p (bought k w who p l direction b))))))

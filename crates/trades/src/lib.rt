@@ -1,0 +1,8 @@
+// Exchanges with a pool: what each call does to the store, check by check.
+#![tactic(auto)]
+
+mod exchange;
+mod quotes;
+mod swaps;
+
+pub use swaps::{swap, want};
