@@ -1,9 +1,10 @@
 // Changes that are recorded.
-ghost use Rattle.std.specs.Prelude.{◌≡◌, ◌+◌, ◌<◌, ◌≤◌, true, false, Ok, Err, length, take, MatchResult, nat_lt};
+ghost use Rattle.std.specs.Prelude.{◌≡◌, ◌+◌, ◌<◌, ◌≤◌, true, false, length, take, MatchResult, nat_lt};
 ghost use Rattle.checks.specs.Tests.{is_currency};
 ghost use Rattle.faults.specs.declared.cause.Cause.TheVariants.{Currency as no_currency};
 ghost use Rattle.book.specs.Cells.{written};
-ghost use Rattle.hooks.specs.Meaning.{known_answer, ask_answer, payee_answer, told};
+ghost use Rattle.hooks.specs.declared.bank.HookFault.TheVariants.{Unknown as unknown};
+ghost use Rattle.hooks.specs.Meaning.{known, known_answer, ask_answer, told};
 ghost use Rattle.tokens.specs.Moves.{balance_answer, transfer_answer, after_transfer};
 ghost use Rattle.tokens.specs.Meaning.{moved};
 ghost use Rattle.store.specs.Saved.{world, recorded, saved, Kept, Changed};
@@ -65,8 +66,8 @@ impl<T: TokenBank, H: HookBank> Store<T, H> {
     // Whose claims a hook's tolls are.
     pub fn payee(&self, hook: u32) -> Result<Account, HookFault>
         ensures { MatchResult result
-            (λ a. payee_answer (H.HookBank.meaning self.now.held.hooks) hook ≡ Ok a.number)
-            (λ f. payee_answer (H.HookBank.meaning self.now.held.hooks) hook ≡ Err f) }
+            (λ a. (known (H.HookBank.meaning self.now.held.hooks) hook ≡ true) × (a.number ≡ (H.HookBank.meaning self.now.held.hooks).payee hook))
+            (λ f. (known (H.HookBank.meaning self.now.held.hooks) hook ≡ false) × (f ≡ unknown)) }
     {
         let number = self.held.hooks.payee(hook)?;
         Ok(Account { number })
