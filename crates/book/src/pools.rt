@@ -10,7 +10,12 @@ impl Terms {
     pub fn new(c0: Currency, c1: Currency, curve: u32, hook: u32) -> Terms
         ensures { result ≡ terms c0.number c1.number curve hook }
     {
-        Terms { c0, c1, curve, hook }
+        Terms {
+            c0,
+            c1,
+            curve,
+            hook,
+        }
     }
 }
 

@@ -69,10 +69,7 @@ fn judge<T: TokenBank, H: HookBank>(
     let Sides { input, output } = in_and_out(made.pool.terms, direction);
     let book = store.book();
     let paid = lowered(book.delta(who, input), a as u64)?;
-    let credited = raised(
-        book.delta(who, output),
-        b.saturating_sub(toll) as u64,
-    )?;
+    let credited = raised(book.delta(who, output), b.saturating_sub(toll) as u64)?;
     let claim = increased(book.claim(payee, output), toll as u64)?;
     Ok((
         payee,

@@ -19,7 +19,12 @@ fn market(pool: Pool, direction: u32) -> Market
 }
 
 #[tactic(auto, using(crate::proofs::Rooms::room_sold))]
-pub(crate) fn output_for<C: CurveBank>(curves: &C, pool: Pool, direction: u32, a: u32) -> Result<u32, Cause>
+pub(crate) fn output_for<C: CurveBank>(
+    curves: &C,
+    pool: Pool,
+    direction: u32,
+    a: u32,
+) -> Result<u32, Cause>
     ensures is { result ≡ output_for (C.CurveBank.meaning curves.now) pool direction a }
     ensures room { IfOk result (λ _. in_side direction pool + a < 2 ^ 32) }
 {
@@ -34,7 +39,12 @@ pub(crate) fn output_for<C: CurveBank>(curves: &C, pool: Pool, direction: u32, a
 }
 
 #[tactic(auto, using(crate::proofs::Rooms::room_bought))]
-pub(crate) fn input_for<C: CurveBank>(curves: &C, pool: Pool, direction: u32, b: u32) -> Result<u32, Cause>
+pub(crate) fn input_for<C: CurveBank>(
+    curves: &C,
+    pool: Pool,
+    direction: u32,
+    b: u32,
+) -> Result<u32, Cause>
     ensures is { result ≡ input_for (C.CurveBank.meaning curves.now) pool direction b }
     ensures room { IfOk result (λ a. in_side direction pool + a < 2 ^ 32) }
 {

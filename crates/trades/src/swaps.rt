@@ -69,8 +69,7 @@ pub fn swap<T: TokenBank, H: HookBank, C: CurveBank>(
     flag(direction)?;
     amount(a)?;
     step(store.book().steps)?;
-    let told = sell(store, curves, who, made, direction, a).map_err(|cause| cause.in_pool(pool))?;
-    Ok(told)
+    sell(store, curves, who, made, direction, a).map_err(|cause| cause.in_pool(pool))
 }
 
 pub fn want<T: TokenBank, H: HookBank, C: CurveBank>(
