@@ -34,10 +34,14 @@ changed b who p c steps =
     let t = c.pool.terms in
     with_steps (with_share (with_delta (with_delta (with_pool b p (Some c.pool)) who t.c0.number c.deltas.in_c0) who t.c1.number c.deltas.in_c1) p who c.share) steps
 
--- a refusal of this pool, or an answer with what holds then, a step later
-abbrev pub in_pool : {A : Type 0} → World → ℕ → ℕ → Result (A × Change) Cause → Outcome A
-in_pool w who p (Err c) = refused (placed c p)
-in_pool w who p (Ok r) = done r.0 (with_book w (changed w.book who p r.1 (w.book.steps + 1)))
+-- a refusal of this pool, or an answer with what holds then
+abbrev pub in_pool : {A : Type 0} → ℕ → Result (A × World) Cause → Outcome A
+in_pool p (Err c) = refused (placed c p)
+in_pool p (Ok r) = done r.0 r.1
+
+-- what holds after a change, a step later
+abbrev pub carried : {A : Type 0} → World → ℕ → ℕ → A × Change → Result (A × World) Cause
+carried w who p r = Ok (r.0, with_book w (changed w.book who p r.1 (w.book.steps + 1)))
 
 -- the next pool's number, where there is room for one
 abbrev pub numbered : {A : Type 0} → Option ℕ → (ℕ → Outcome A) → Outcome A
@@ -102,7 +106,7 @@ seed w who p a b =
     need (is_amount a) cause.Amount
     (need (is_amount b) cause.Amount
     (need (has_step w.book.steps) cause.Steps
-    (in_pool w who p (first_deposit w.book who l a b))))))
+    (in_pool p (with_ok (first_deposit w.book who l a b) (carried w who p)))))))
 
 abbrev pub add : World → ℕ → ℕ → ℕ → Outcome (ℕ × ℕ)
 add w who p s =
@@ -110,7 +114,7 @@ add w who p s =
     (known (get_or w.book.pools.rows p None) (λ l.
     need (is_amount s) cause.Amount
     (need (has_step w.book.steps) cause.Steps
-    (in_pool w who p (deposit w.book who p l s)))))
+    (in_pool p (with_ok (deposit w.book who p l s) (carried w who p))))))
 
 abbrev pub remove : World → ℕ → ℕ → ℕ → Outcome (ℕ × ℕ)
 remove w who p s =
@@ -118,4 +122,4 @@ remove w who p s =
     (known (get_or w.book.pools.rows p None) (λ l.
     need (is_amount s) cause.Amount
     (need (has_step w.book.steps) cause.Steps
-    (in_pool w who p (withdrawal w.book who p l s)))))
+    (in_pool p (with_ok (withdrawal w.book who p l s) (carried w who p))))))

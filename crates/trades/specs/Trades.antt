@@ -1,7 +1,6 @@
 -- What exchanges with a pool come to, on what holds. Assumes nothing.
-use Rattle.std.specs.Prelude.{◌≡◌, ℕ, ◌+◌, ◌-◌, Bool, cond, not, Some, None, Option, Ok, Err, Result, pos, ◌+ℤ◌, ◌-ℤ◌, get_or, ◌==◌}
+use Rattle.std.specs.Prelude.{◌≡◌, ℕ, ◌+◌, ◌-◌, cond, not, Some, None, Ok, Err, Result, pos, ◌+ℤ◌, ◌-ℤ◌, get_or, ◌==◌}
 use Rattle.amounts.specs.Checks.{need as tested, raised, with_ok}
-use Rattle.book.specs.declared.records.Book.{Book}
 use Rattle.book.specs.declared.records.Pool.{Pool}
 use Rattle.book.specs.declared.records.Terms.{Terms}
 use Rattle.book.specs.Cells.{with_pool, with_claim, with_delta, with_steps}
@@ -12,24 +11,15 @@ use Rattle.curves.specs.Answers.{answered}
 use Rattle.curves.specs.Meaning.{Curves}
 use Rattle.faults.specs.declared.cause.Cause.{Cause}
 use Rattle.faults.specs.declared.cause.Cause.TheVariants as cause
-use Rattle.faults.specs.Reports.{unplaced, placed, by_curve, by_hook}
+use Rattle.faults.specs.Reports.{by_curve, by_hook}
 use Rattle.hooks.specs.Meaning.{Hooks, ask_answer, told}
+use Rattle.pools.specs.Pools.{known, in_pool}
 use Rattle.store.specs.declared.state.Store.{Store}
-use Rattle.store.specs.Outcome.{Outcome, refused, done, need, Stepped}
+use Rattle.store.specs.Outcome.{Outcome, need, Stepped}
 use Rattle.store.specs.Saved.{world, Changed}
 use Rattle.store.specs.World.{World, with_book, with_hooks}
 use Rattle.tokens.specs.Meaning.{Tokens}
 use Rattle.trades.specs.declared.exchange.Judged.{Judged}
-
--- what a call on a pool comes to, where the pool is made
-abbrev pub known : {A : Type 0} → Option Pool → (Pool → Outcome A) → Outcome A
-known None rest = refused (unplaced cause.Pool)
-known (Some l) rest = rest l
-
--- a refusal of this pool, or an answer with what holds then
-abbrev pub in_pool : {A : Type 0} → ℕ → Result (A × World) Cause → Outcome A
-in_pool p (Err c) = refused (placed c p)
-in_pool p (Ok r) = done r.0 r.1
 
 -- the answer is the result's, and so is what holds then; a refusal changes nothing
 module _ {T H : Type 0} (tokens : T → Tokens) (hooks : H → Hooks) where
