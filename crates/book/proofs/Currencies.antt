@@ -1,5 +1,5 @@
 -- A tested currency is the one of its number. Assumes nothing.
-use Rattle.std.proofs.Common.{◌≡◌, ◌%◌, ◌<◌, sym, arith}
+use Rattle.std.proofs.Common.{◌≡◌, ◌<◌, sym}
 use mathlib.Core.HLevel.{is_prop→PathP}
 use Rattle.std.proofs.Math.Bridge.{le_prop}
 use Rattle.std.proofs.Math.Nat.{mod-eq_of_lt}

@@ -1,11 +1,10 @@
 -- An exchange does not lower the measure per share. Assumes nothing.
-use Rattle.std.proofs.Common.{◌≡◌, ℕ, ◌+◌, ◌-◌, ◌*◌, ◌^◌, ◌≤◌, Bool, true, false, cond, not, Some, None, Option, Ok, Err, Result, refl, mul-le-mul, arith, eqb}
+use Rattle.std.proofs.Common.{◌≡◌, ℕ, ◌+◌, ◌-◌, ◌≤◌, Bool, true, false, cond, not, Some, None, Option, Ok, Result, mul-le-mul, arith, eqb}
 use Rattle.amounts.specs.Checks.{need, raised, with_ok}
 use Rattle.book.specs.declared.records.Pool.{Pool}
 use Rattle.book.specs.Pools.{exchanged}
 use Rattle.curves.specs.Answers.{answered}
-use Rattle.curves.specs.Meaning.{Curves, Lawful, measure_after}
-use Rattle.faults.specs.declared.cause.Cause.{Cause}
+use Rattle.curves.specs.Meaning.{Curves, Lawful}
 use Rattle.faults.specs.declared.cause.Cause.TheVariants as cause
 use Rattle.faults.specs.Reports.{by_curve}
 use Rattle.pools.specs.Measure.{NoPoorer}
