@@ -1,5 +1,5 @@
 // One exchange, whose input and output are known.
-ghost use Rattle.std.specs.Prelude.{◌≡◌, ◌+◌, ◌^◌, ◌<◌, ◌≤◌, Ok, Err, MatchResult};
+ghost use Rattle.std.specs.Prelude.{◌≡◌, ◌+◌, ◌^◌, ◌<◌, ◌≤◌, Ok, Err, MatchResult, IfOk};
 ghost use Rattle.book.specs.Pools.{in_side};
 ghost use Rattle.store.specs.Outcome.{Stepped};
 ghost use Rattle.store.specs.Room.{HasRoom};
@@ -97,7 +97,8 @@ fn carry_out<T: TokenBank, H: HookBank>(
     requires steps { store.old.held.book.steps < 64 }
     requires room { in_side direction made.pool + a < 2 ^ 32 }
     requires payee { payee.number ≡ (H.HookBank.meaning store.old.held.hooks).payee made.pool.terms.hook }
-    ensures { Stepped T.TokenBank.meaning H.HookBank.meaning store.old store.new (traded (world T.TokenBank.meaning H.HookBank.meaning store.old.held) who.number made.id.number made.pool direction a b judged) }
+    ensures does { Stepped T.TokenBank.meaning H.HookBank.meaning store.old store.new (traded (world T.TokenBank.meaning H.HookBank.meaning store.old.held) who.number made.id.number made.pool direction a b judged) }
+    ensures counted { store.new.held.book.steps ≡ store.old.held.book.steps + 1 }
 {
     let Made { id, pool } = made;
     let Sides { input, output } = in_and_out(pool.terms, direction);
@@ -128,7 +129,8 @@ pub(crate) fn exchange<T: TokenBank, H: HookBank>(
     requires free { HasRoom store.old }
     requires steps { store.old.held.book.steps < 64 }
     requires room { in_side direction made.pool + a < 2 ^ 32 }
-    ensures { Does T.TokenBank.meaning H.HookBank.meaning (exchange_result (world T.TokenBank.meaning H.HookBank.meaning store.old.held) who.number made.id.number made.pool direction a b) store.old store.new result }
+    ensures does { Does T.TokenBank.meaning H.HookBank.meaning (exchange_result (world T.TokenBank.meaning H.HookBank.meaning store.old.held) who.number made.id.number made.pool direction a b) store.old store.new result }
+    ensures counted { IfOk result (λ _. store.new.held.book.steps ≡ store.old.held.book.steps + 1) }
 {
     let (payee, judged) = judge(store, who, made, direction, a, b)?;
     carry_out(store, who, made, direction, a, b, payee, judged);

@@ -5,4 +5,4 @@ mod exchange;
 mod quotes;
 mod swaps;
 
-pub use swaps::{swap, want};
+pub use swaps::{sell, swap, want};

@@ -1,5 +1,5 @@
 // An exchange of a given input, and one for a given output.
-ghost use Rattle.std.specs.Prelude.{◌≡◌, ◌<◌, ◌≤◌};
+ghost use Rattle.std.specs.Prelude.{◌≡◌, ◌+◌, ◌<◌, ◌≤◌, IfOk};
 ghost use Rattle.store.specs.Outcome.{Meets};
 ghost use Rattle.store.specs.Room.{HasRoom};
 ghost use Rattle.store.specs.Saved.{world};
@@ -15,8 +15,8 @@ use hooks::HookBank;
 use store::Store;
 use tokens::TokenBank;
 
-// What is credited for `a`, and the toll.
-fn sell<T: TokenBank, H: HookBank, C: CurveBank>(
+// What is credited for `a`, and the toll; also each hop of a route.
+pub fn sell<T: TokenBank, H: HookBank, C: CurveBank>(
     store: &mut Store<T, H>,
     curves: &C,
     who: Account,
@@ -26,7 +26,8 @@ fn sell<T: TokenBank, H: HookBank, C: CurveBank>(
 ) -> Result<(u32, u32), Cause>
     requires free { HasRoom store.old }
     requires steps { store.old.held.book.steps < 64 }
-    ensures { Does T.TokenBank.meaning H.HookBank.meaning (sold (C.CurveBank.meaning curves.now) (world T.TokenBank.meaning H.HookBank.meaning store.old.held) who.number made.id.number made.pool direction a) store.old store.new result }
+    ensures does { Does T.TokenBank.meaning H.HookBank.meaning (sold (C.CurveBank.meaning curves.now) (world T.TokenBank.meaning H.HookBank.meaning store.old.held) who.number made.id.number made.pool direction a) store.old store.new result }
+    ensures counted { IfOk result (λ _. store.new.held.book.steps ≡ store.old.held.book.steps + 1) }
 {
     let b = output_for(curves, made.pool, direction, a)?;
     let toll = exchange(store, who, made, direction, a, b)?;
