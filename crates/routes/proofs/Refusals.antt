@@ -1,5 +1,5 @@
 -- A hop whose exchange is refused is refused. Assumes nothing.
-use Rattle.std.proofs.Common.{◌≡◌, ◌+◌, Ok, Err, Result, ap, sym, arith}
+use Rattle.std.proofs.Common.{◌≡◌, Ok, Err, Result, ap, sym, arith}
 use Rattle.amounts.specs.Checks.{raised, with_ok}
 use Rattle.faults.specs.declared.cause.Cause.{Cause}
 use Rattle.hooks.specs.Meaning.{Hooks}

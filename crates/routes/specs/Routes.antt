@@ -1,5 +1,6 @@
 -- What a route comes to, on what holds. Assumes nothing.
-use Rattle.std.specs.Prelude.{◌≡◌, ℕ, suc, ◌+◌, ◌≤◌, Bool, cond, not, ◌||◌, List, [], ◌∷◌, Some, None, Option, Ok, Err, Result, length, get_or, ◌==◌, nat_le}
+use Rattle.std.specs.Prelude.{◌≡◌, ℕ, ◌+◌, ◌≤◌, Bool, cond, not, List, [], ◌∷◌, Some, None, Option, Ok, Err, Result, length, get_or, ◌==◌, nat_le, ◌*◌, ◌&&◌, is_none}
+use Rattle.std.specs.List.{position}
 use Rattle.amounts.specs.Checks.{need, raised, with_ok}
 use Rattle.book.specs.declared.records.Book.{Book}
 use Rattle.book.specs.declared.records.Pool.{Pool}
@@ -16,7 +17,7 @@ use Rattle.routes.specs.Faults.{whole}
 use Rattle.hooks.specs.Meaning.{Hooks}
 use Rattle.store.specs.declared.state.Store.{Store}
 use Rattle.store.specs.Outcome.{Stepped}
-use Rattle.store.specs.Saved.{world, Changed}
+use Rattle.store.specs.Saved.{world, recorded, Kept, Changed}
 use Rattle.store.specs.World.{World}
 use Rattle.tokens.specs.Meaning.{Tokens}
 use Rattle.trades.specs.Trades.{sold, comes_out}
@@ -61,8 +62,40 @@ abbrev pub hops : Curves → ℕ → ℕ → Leg → List ℕ → Result Leg Rou
 hops k who i s [] = Ok s
 hops k who i s (p ∷ ps) = with_ok (hop k who i s p) (λ t. hops k who (i + 1) t ps)
 
+-- the position of the first pool that is not made, counted from 0
+abbrev pub unknown : Book → List ℕ → Option ℕ
+unknown b pools = position (λ p. is_none (get_or b.pools.rows p None)) pools
+
+abbrev pub all_known : {A : Type 0} → Option ℕ → Result A RouteFault → Result A RouteFault
+all_known None rest = rest
+all_known (Some i) rest = Err (route.At (i + 1) (unplaced cause.Pool))
+
+-- one hop to four
+abbrev pub has_hops : ℕ → Bool
+has_hops n = nat_le 1 n && nat_le n 4
+
+-- the final amount, with what holds then
+abbrev pub arrived : ℕ → Leg → Result (ℕ × World) RouteFault
+arrived least s = need (nat_le least s.carried.amount) route.Least (Ok (s.carried.amount, s.world))
+
+abbrev pub routed : Curves → World → ℕ → ℕ → ℕ → ℕ → List ℕ → Result (ℕ × World) RouteFault
+routed k w who c a least pools =
+    need (is_account who) (whole cause.Account)
+    (need (is_currency w.tokens.count c) (whole cause.Currency)
+    (all_known (unknown w.book pools)
+    (need (is_amount a) (whole cause.Amount)
+    (need (is_amount_or_none least) (whole cause.Amount)
+    (need (has_hops (length pools)) (whole cause.Hops)
+    (need (nat_le (w.book.steps + length pools) 64) (whole cause.Steps)
+    (with_ok (hops k who 1 (record { carried = record { currency = c; amount = a }; world = w }) pools) (arrived least))))))))
+
 module _ {T H : Type 0} (tokens : T → Tokens) (hooks : H → Hooks) where
   -- what is carried on, and what holds then, are those of the leg; a refused hop changes nothing
   abbrev pub Hopped : Result Leg RouteFault → Store T H → Store T H → Result Carried RouteFault → Type 0
   Hopped (Err f) before after r = (r ≡ Err f) × Changed tokens hooks before after 0 (world tokens hooks before.held)
   Hopped (Ok s) before after r = (r ≡ Ok s.carried) × Stepped tokens hooks before after s.world
+
+  -- the answer and what holds then are those of the route of n hops; a refused one leaves what held before it, and its journal
+  abbrev pub Routed : ℕ → Result (ℕ × World) RouteFault → Store T H → Store T H → Result ℕ RouteFault → Type 0
+  Routed n (Err f) before after r = (r ≡ Err f) × Changed tokens hooks before after 0 (world tokens hooks before.held)
+  Routed n (Ok x) before after r = (r ≡ Ok x.0) × (world tokens hooks after.held ≡ x.1) × (recorded before ≤ recorded after) × (recorded after ≤ recorded before + 6 * n) × Kept tokens hooks before after (recorded before)

@@ -9,15 +9,9 @@ pub enum RouteFault {
     // before any hop
     Whole(VaultFault),
     // at a hop, counted from 1
-    At {
-        hop: u32,
-        fault: VaultFault,
-    },
+    At { hop: u32, fault: VaultFault },
     // the pool of a hop has not the carried currency
-    Carried {
-        hop: u32,
-        pool: u32,
-    },
+    Carried { hop: u32, pool: u32 },
     // the final amount is below the least
     Least,
 }

@@ -4,5 +4,7 @@
 mod fault;
 mod hop;
 mod hops;
+mod routes;
 
 pub use fault::RouteFault;
+pub use routes::route;

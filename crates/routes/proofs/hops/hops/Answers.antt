@@ -1,4 +1,4 @@
-use Rattle.std.proofs.Common.{◌≡◌, ◌+◌, ◌<◌, ◌∷◌, length, get_or, drop, ap, ◌∙◌, Err, rules, arith}
+use Rattle.std.proofs.Common.{◌+◌, ◌<◌, length, drop, ap, ◌∙◌, rules, arith}
 use Rattle.std.proofs.lemmas.List.{drop_more}
 use Rattle.amounts.specs.Checks.{with_ok}
 use Rattle.store.specs.Saved.{world}
@@ -34,12 +34,13 @@ loop-pool-preserved g c =
     let m = made g.T.TokenBank.meaning g.H.HookBank.meaning l.store c.hop.new.store _ c.in_ok-carried.carried c.in_ok-carried.ensures.does in
     let grows = m.1 in
     let counted = c.in_ok-carried.ensures.counted in
-    let low = v.2 in
-    (v.0
-    ∙ ap (hops k who l.number (record { carried = l.carried; world = w l.store.held })) (drop_more pools i 0 within)
-    ∙ ap (λ x. with_ok x (λ t. hops k who (l.number + 1) t (drop (i + 1) pools))) m.0,
-    omega (arith, v.1),
-    omega (arith, low, grows),
-    omega (arith, v.3, grows),
-    omega (arith, v.4, counted),
-    λ n below. m.2 n (omega (arith, below, low)) ∙ v.5 n below)
+    let low = v.2 in (
+      v.0
+          ∙ ap (hops k who l.number (record { carried = l.carried; world = w l.store.held })) (drop_more pools i 0 within)
+          ∙ ap (λ x. with_ok x (λ t. hops k who (l.number + 1) t (drop (i + 1) pools))) m.0,
+      omega (arith, v.1),
+      omega (arith, low, grows),
+      omega (arith, v.3, grows),
+      omega (arith, v.4, counted),
+      λ n below. m.2 n (omega (arith, below, low)) ∙ v.5 n below,
+    )
