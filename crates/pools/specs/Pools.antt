@@ -1,5 +1,5 @@
--- What deposits and withdrawals come to, on what holds. Assumes nothing.
-use Rattle.std.specs.Prelude.{nat_lt, ℕ, ◌+◌, ◌-◌, ◌*◌, not, ◌&&◌, Some, None, Option, Ok, Err, Result, ℤ, pos, ◌+ℤ◌, ◌-ℤ◌, get_or, ◌==◌, nat_le}
+-- What new pools, deposits and withdrawals come to, on what holds. Assumes nothing.
+use Rattle.std.specs.Prelude.{ℕ, ◌+◌, ◌-◌, ◌*◌, not, ◌&&◌, Some, None, Option, Ok, Err, Result, ℤ, pos, ◌+ℤ◌, ◌-ℤ◌, get_or, ◌==◌, nat_le, nat_lt}
 use Rattle.amounts.specs.Checks.{need as tested, with_ok}
 use Rattle.amounts.specs.Rows.{at2}
 use Rattle.amounts.specs.Shares.{root, cost, paid}

@@ -5,7 +5,7 @@ ghost use Rattle.store.specs.Outcome.{Meets};
 ghost use Rattle.store.specs.Room.{HasRoom};
 ghost use Rattle.store.specs.Saved.{world};
 
-use crate::terms::{deposit, first_deposit, withdrawal};
+use crate::judging::{deposit, first_deposit, withdrawal};
 use checks::{account, amount, pool, step};
 use faults::VaultFault;
 use hooks::HookBank;

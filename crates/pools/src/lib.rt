@@ -3,8 +3,8 @@
 
 mod change;
 mod deposits;
+mod judging;
 mod listing;
-mod terms;
 
 pub use deposits::{add, remove, seed};
 pub use listing::pool;

@@ -103,6 +103,7 @@ fn carry_out<T: TokenBank, H: HookBank>(
     let Made { id, pool } = made;
     let Sides { input, output } = in_and_out(pool.terms, direction);
     let steps = store.book().steps + 1;
+    // it was asked, so it is known, and telling it is accepted
     let _ = store.tell(Passage {
         hook: pool.terms.hook,
         input: a,
