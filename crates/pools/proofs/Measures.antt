@@ -1,10 +1,34 @@
 -- Deposits and withdrawals do not lower the measure per share. Assumes nothing.
-use Rattle.std.proofs.Common.{◌≡◌, ℕ, ◌+◌, ◌-◌, ◌*◌, ◌/◌, ◌^◌, ◌<◌, ◌≤◌, ap, ◌∙◌, subst, mul_comm, add-mul, mul-add, mul-le-mul, arith}
+use Rattle.std.proofs.Common.{◌≡◌, ℕ, ◌+◌, ◌-◌, ◌*◌, ◌/◌, ◌^◌, ◌<◌, ◌≤◌, Bool, true, false, not, ◌&&◌, eqb, leb, Ok, Err, Result, refl, ap, ◌∙◌, subst, mul_comm, add-mul, mul-add, mul-le-mul, arith}
 use Rattle.std.proofs.Math.Nat.{div-le_of_le-mul, mul-div-le, lt-div-mul-add}
+use Rattle.std.proofs.lemmas.Bool.Decides.{nat_tests}
+use Rattle.amounts.specs.Checks.{need, with_ok}
 use Rattle.amounts.specs.Shares.{cost, paid}
+use Rattle.book.specs.declared.records.Book.{Book}
 use Rattle.book.specs.declared.records.Pool.{Pool}
+use Rattle.checks.specs.Tests.{has_room}
 use Rattle.curves.specs.Meaning.{Curves, Lawful}
+use Rattle.faults.specs.declared.cause.Cause.{Cause}
+use Rattle.faults.specs.declared.cause.Cause.TheVariants as cause
+use Rattle.pools.specs.declared.change.Change.{Change}
+use Rattle.pools.specs.declared.change.Deltas.{Deltas}
 use Rattle.pools.specs.Measure.{NoPoorer}
+use Rattle.pools.specs.Pools.{share, charged, credited, deposit, withdrawal}
+
+-- what passed a test is what stands behind it
+pub passed : {X E : Type 0} (t : Bool) (e : E) (rest : Result X E) (x : X) → need t e rest ≡ Ok x → (t ≡ true) × (rest ≡ Ok x)
+passed true e rest x h = (refl, h)
+passed false e rest x h = cc
+
+-- and what came of a first answer is what came of it with the rest
+opened : {X Y E : Type 0} (first : Result X E) (rest : X → Result Y E) (y : Y) → with_ok first rest ≡ Ok y → (x : X) × (rest x ≡ Ok y)
+opened (Ok x) rest y h = (x, h)
+opened (Err e) rest y h = cc
+
+-- the pool that an accepted change leaves
+abbrev pool_of : {A : Type 0} → Result (A × Change) Cause → Pool → Pool
+pool_of (Ok r) l = r.1.pool
+pool_of (Err e) l = l
 
 -- a cost is a full share of a holding, or more
 up_enough : (s x t : ℕ) → 0 < t → (t + s) * x ≤ t * (x + cost s x t)
@@ -36,3 +60,37 @@ module _ (k : Curves) (laws : Lawful k) (l : Pool) where
 
   pub withdrawal_no_poorer : (s : ℕ) → s ≤ l.total → NoPoorer k l (record l { x = l.x - paid s l.x l.total; y = l.y - paid s l.y l.total; total = l.total - s })
   withdrawal_no_poorer s few = per_share _ _ (l.total - s) (down_enough s l.x l.total few) (down_enough s l.y l.total few)
+
+  module _ (b : Book) (who p s : ℕ) where
+    pub added_no_poorer : (r : (ℕ × ℕ) × Change) → deposit b who p l s ≡ Ok r → NoPoorer k l r.1.pool
+    added_no_poorer r h =
+        let a0 : ℕ = cost s l.x l.total in
+        let a1 : ℕ = cost s l.y l.total in
+        let set : Deltas → Result ((ℕ × ℕ) × Change) Cause = λ d. Ok ((a0, a1), record { pool = record l { x = l.x + a0; y = l.y + a1; total = l.total + s }; deltas = d; share = share b p who + s }) in
+        let last = with_ok (charged b who l.terms a0 a1) set in
+        let four = need (has_room (share b p who + s)) cause.Full last in
+        let three = need (has_room (l.total + s)) cause.Full four in
+        let two = need (has_room (l.y + a1)) cause.Full three in
+        let one = need (has_room (l.x + a0)) cause.Full two in
+        let some = passed (not (eqb l.total 0)) cause.Shares one r h in
+        let h1 = passed (has_room (l.x + a0)) cause.Full two r some.1 in
+        let h2 = passed (has_room (l.y + a1)) cause.Full three r h1.1 in
+        let h3 = passed (has_room (l.total + s)) cause.Full four r h2.1 in
+        let h4 = passed (has_room (share b p who + s)) cause.Full last r h3.1 in
+        let rest = opened (charged b who l.terms a0 a1) set r h4.1 in
+        subst (NoPoorer k l) (ap (λ x. pool_of x l) rest.1) (deposit_no_poorer s (grind (arith, nat_tests, some.0)))
+
+    -- no more shares go than there are
+    pub removed_no_poorer : s ≤ l.total → (r : (ℕ × ℕ) × Change) → withdrawal b who p l s ≡ Ok r → NoPoorer k l r.1.pool
+    removed_no_poorer few r h =
+        let a0 : ℕ = paid s l.x l.total in
+        let a1 : ℕ = paid s l.y l.total in
+        let set : Deltas → Result ((ℕ × ℕ) × Change) Cause = λ d. Ok ((a0, a1), record { pool = record l { x = l.x - a0; y = l.y - a1; total = l.total - s }; deltas = d; share = share b p who - s }) in
+        let last = with_ok (credited b who l.terms a0 a1) set in
+        let two = need (not (eqb a0 0 && eqb a1 0)) cause.Nothing last in
+        let one = need (leb s (share b p who)) cause.SharesShort two in
+        let h1 = passed (not (eqb l.total 0)) cause.Shares one r h in
+        let h2 = passed (leb s (share b p who)) cause.SharesShort two r h1.1 in
+        let h3 = passed (not (eqb a0 0 && eqb a1 0)) cause.Nothing last r h2.1 in
+        let rest = opened (credited b who l.terms a0 a1) set r h3.1 in
+        subst (NoPoorer k l) (ap (λ x. pool_of x l) rest.1) (withdrawal_no_poorer s few)
