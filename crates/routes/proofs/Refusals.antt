@@ -1,4 +1,4 @@
--- A hop whose exchange is refused is refused. Assumes nothing.
+-- What a hop came to, refused or made. Assumes nothing.
 use Rattle.std.proofs.Common.{◌≡◌, Ok, Err, Result, ap, sym, arith}
 use Rattle.amounts.specs.Checks.{raised, with_ok}
 use Rattle.faults.specs.declared.cause.Cause.{Cause}
@@ -13,6 +13,7 @@ use Rattle.store.specs.World.{World}
 use Rattle.tokens.specs.Meaning.{Tokens}
 use Rattle.trades.specs.Trades.{Does}
 
+-- a hop whose exchange is refused is refused
 pub refused_at : {T H A : Type 0} (tokens : T → Tokens) (hooks : H → Hooks) (before after : Store T H) (x : Result (A × World) Cause) (by : Cause → RouteFault) (rest : A × World → Result Leg RouteFault) (c : Cause) → Does tokens hooks x before after (Err c) → Hopped tokens hooks (with_ok (raised by x) rest) before after (Err (by c))
 refused_at tokens hooks before after (Err d) by rest c does = (cc, does.1)
 refused_at tokens hooks before after (Ok y) by rest c does = cc

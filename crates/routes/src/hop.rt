@@ -1,7 +1,6 @@
 // One hop: the exchange of what a route carries.
 ghost use Rattle.std.specs.Prelude.{◌≡◌, ◌<◌, ◌≤◌, Some, None, MatchOption, ◌+◌, IfOk};
 ghost use Rattle.routes.specs.Routes.{direction_of, exchanged, hop as hop_result, Hopped};
-ghost use Rattle.trades.specs.Trades.{comes_out};
 ghost use Rattle.store.specs.Room.{HasRoom};
 ghost use Rattle.store.specs.Saved.{world};
 
@@ -13,7 +12,7 @@ use faults::Cause;
 use hooks::HookBank;
 use store::Store;
 use tokens::TokenBank;
-use trades::sell;
+use trades::{Sides, in_and_out, sell};
 
 // So much of a currency.
 #[derive(Clone, Copy)]
@@ -35,16 +34,6 @@ fn direction_of(currency: u32, terms: Terms) -> Option<u32>
     }
 }
 
-fn credited_in(direction: u32, terms: Terms) -> u32
-    ensures { result ≡ comes_out direction terms }
-{
-    if direction == 0 {
-        terms.c1.number
-    } else {
-        terms.c0.number
-    }
-}
-
 // The exchange of a hop whose direction is found.
 #[tactic(auto, using(crate::proofs::Refusals::refused_at))]
 fn exchanged<T: TokenBank, H: HookBank, C: CurveBank>(
@@ -61,9 +50,10 @@ fn exchanged<T: TokenBank, H: HookBank, C: CurveBank>(
     ensures does { Hopped T.TokenBank.meaning H.HookBank.meaning (exchanged (C.CurveBank.meaning curves.now) (world T.TokenBank.meaning H.HookBank.meaning store.old.held) who.number hop made.id.number made.pool direction a) store.old store.new result }
     ensures counted { IfOk result (λ _. store.new.held.book.steps ≡ store.old.held.book.steps + 1) }
 {
+    let Sides { output, .. } = in_and_out(made.pool.terms, direction);
     match sell(store, curves, who, made, direction, a) {
         Ok((amount, _)) => Ok(Carried {
-            currency: credited_in(direction, made.pool.terms),
+            currency: output.number,
             amount,
         }),
         Err(cause) => Err(RouteFault::At {

@@ -14,12 +14,13 @@ use store::Store;
 use tokens::TokenBank;
 
 // The currencies of a direction.
-struct Sides {
-    input: Currency,
-    output: Currency,
+#[derive(Clone, Copy)]
+pub struct Sides {
+    pub input: Currency,
+    pub output: Currency,
 }
 
-fn in_and_out(terms: Terms, direction: u32) -> Sides
+pub fn in_and_out(terms: Terms, direction: u32) -> Sides
     ensures input { result.input.number ≡ goes_in direction terms }
     ensures output { result.output.number ≡ comes_out direction terms }
 {

@@ -5,4 +5,5 @@ mod exchange;
 mod quotes;
 mod swaps;
 
+pub use exchange::{Sides, in_and_out};
 pub use swaps::{sell, swap, want};
