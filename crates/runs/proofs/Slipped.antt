@@ -24,7 +24,7 @@ use Rattle.runs.specs.Held.{count, held}
 use Rattle.runs.specs.Turned.{ending}
 
 -- a frame less, and a frame's slip less
-one_less : (p : Phase) (s : Session) (f g : Frames) → held p (Some (record { session = s; frames = f })) ≡ true → suc (count g) ≡ count f → held (shallower p) (Some (record { session = s; frames = g })) ≡ true
+pub one_less : (p : Phase) (s : Session) (f g : Frames) → held p (Some (record { session = s; frames = f })) ≡ true → suc (count g) ≡ count f → held (shallower p) (Some (record { session = s; frames = g })) ≡ true
 one_less phase.Locked s f g e less = cc e
 one_less phase.Open s f g e less = let n = eqb-true (count f) 0 e in eq-eqb (count g) 0 (omega (arith, n, less))
 one_less (phase.Framed i) s f g e less =

@@ -23,21 +23,21 @@ fn winding() -> [Call; 5]
 }
 
 impl<T: TokenBank, H: HookBank> Desk<T, H> {
-    fn given_up(self) -> Self
-        ensures { state T.TokenBank.meaning H.HookBank.meaning result.vault ≡ given_up (state T.TokenBank.meaning H.HookBank.meaning self.vault) }
+    fn give_up(&mut self)
+        ensures { state T.TokenBank.meaning H.HookBank.meaning self.new.vault ≡ given_up (state T.TokenBank.meaning H.HookBank.meaning self.old.vault) }
     {
-        let mut desk = self;
         for call in winding() {
-            (desk, _) = desk.turn(call);
+            let _ = self.turn(call);
         }
-        desk
     }
 
     // Gives up what is still open; a locked vault stays as it is.
     pub fn wind_up(self) -> Vault<T, H>
         ensures { state T.TokenBank.meaning H.HookBank.meaning result ≡ failed (state T.TokenBank.meaning H.HookBank.meaning self.vault) }
     {
-        let Desk { vault, slips } = self.given_up();
+        let mut desk = self;
+        desk.give_up();
+        let Desk { vault, slips } = desk;
         match slips {
             None => vault,
             Some(slips) => unreachable(),

@@ -32,7 +32,7 @@ pub fn run<T: TokenBank, H: HookBank>(tokens: T, hooks: H, lines: &mut [Line]) -
 {
     let mut desk = Desk::new(tokens, hooks);
     for line in lines {
-        desk = desk.play(line);
+        desk.play(line);
     }
     desk
 }

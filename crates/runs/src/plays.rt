@@ -9,12 +9,11 @@ use tokens::TokenBank;
 
 impl<T: TokenBank, H: HookBank> Desk<T, H> {
     // Makes the call of a line and writes its reply.
-    pub(crate) fn play(self, line: &mut Line) -> Self
-        ensures plays { Turned T.TokenBank.meaning H.HookBank.meaning self.vault line.old.call result.vault line.new.reply }
+    pub(crate) fn play(&mut self, line: &mut Line)
+        ensures plays { Turned T.TokenBank.meaning H.HookBank.meaning self.old.vault line.old.call self.new.vault line.new.reply }
         ensures stays { line.new.call ≡ line.old.call }
     {
-        let (desk, reply) = self.turn(line.call);
+        let reply = self.turn(line.call);
         line.reply = reply;
-        desk
     }
 }

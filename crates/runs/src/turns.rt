@@ -1,4 +1,5 @@
 // One call of a run, made with the slips at the desk. A call that takes in a slip is refused by the rules where there is none.
+ghost use Rattle.std.specs.Prelude.{◌≡◌, Some, None};
 ghost use Rattle.vault.specs.declared.call.Call.TheVariants.{Open as open_call, Close as close_call, Abandon as abandon_call, Frame as frame_call, Act as act_call};
 ghost use Rattle.runs.specs.Turned.{Turned, ending};
 
@@ -7,6 +8,7 @@ use crate::slips::{Frames, Slips};
 use actions::Action;
 use faults::{Cause, VaultFault};
 use hooks::HookBank;
+use std::mem::replace;
 use store::Answer;
 use tokens::TokenBank;
 use vault::{Call, NotClosed, Refused};
@@ -20,139 +22,126 @@ enum FrameEnd {
     Drop,
 }
 
+// Slips are put only where none lie, since none may be let go.
+fn put(place: &mut Option<Slips>, slips: Slips)
+    requires { place.old ≡ None }
+    ensures { place.new ≡ Some slips }
+{
+    match replace(place, Some(slips)) {
+        None => {}
+        Some(others) => unreachable(),
+    }
+}
+
+// The vault stays where it lies, and the slips are taken from beside it and put back.
 impl<T: TokenBank, H: HookBank> Desk<T, H> {
-    fn open(self) -> (Self, Reply)
-        ensures { Turned T.TokenBank.meaning H.HookBank.meaning self.vault open_call result.0.vault result.1 }
+    fn open(&mut self) -> Reply
+        ensures { Turned T.TokenBank.meaning H.HookBank.meaning self.old.vault open_call self.new.vault result }
     {
-        let Desk { mut vault, slips } = self;
-        match (vault.open(), slips) {
-            (Ok(session), None) => {
-                let slips = Some(Slips {
-                    session,
-                    frames: Frames::None,
-                });
-                (Desk { vault, slips }, Ok(Answer::Done))
-            }
-            (Ok(extra), Some(slips)) => unreachable(),
-            (Err(fault), slips) => (Desk { vault, slips }, Err(fault)),
-        }
+        let session = self.vault.open()?;
+        let frames = Frames::None;
+        put(&mut self.slips, Slips { session, frames });
+        Ok(Answer::Done)
     }
 
     // Apart from `abandon`, since a closing has three ends: done, undone, and refused with the slip back.
-    fn close(self) -> (Self, Reply)
-        ensures { Turned T.TokenBank.meaning H.HookBank.meaning self.vault close_call result.0.vault result.1 }
+    fn close(&mut self) -> Reply
+        ensures { Turned T.TokenBank.meaning H.HookBank.meaning self.old.vault close_call self.new.vault result }
     {
-        let Desk { mut vault, slips } = self;
-        let Some(Slips { session, frames }) = slips else {
-            return (Desk { vault, slips: None }, Err(Cause::Locked.into()));
+        let Some(Slips { session, frames }) = self.slips.take() else {
+            return Err(Cause::Locked.into());
         };
-        match vault.close(session) {
+        match self.vault.close(session) {
             Ok(()) => {
                 frames.none();
-                (Desk { vault, slips: None }, Ok(Answer::Done))
+                Ok(Answer::Done)
             }
             Err(NotClosed::Undone(fault)) => {
                 frames.none();
-                (Desk { vault, slips: None }, Err(fault))
+                Err(fault)
             }
             Err(NotClosed::Refused(Refused { fault, slip })) => {
-                let slips = Some(Slips {
-                    session: slip,
-                    frames,
-                });
-                (Desk { vault, slips }, Err(fault))
+                let session = slip;
+                put(&mut self.slips, Slips { session, frames });
+                Err(fault)
             }
         }
     }
 
-    fn abandon(self) -> (Self, Reply)
-        ensures { Turned T.TokenBank.meaning H.HookBank.meaning self.vault abandon_call result.0.vault result.1 }
+    fn abandon(&mut self) -> Reply
+        ensures { Turned T.TokenBank.meaning H.HookBank.meaning self.old.vault abandon_call self.new.vault result }
     {
-        let Desk { mut vault, slips } = self;
-        let Some(Slips { session, frames }) = slips else {
-            return (Desk { vault, slips: None }, Err(Cause::Locked.into()));
+        let Some(Slips { session, frames }) = self.slips.take() else {
+            return Err(Cause::Locked.into());
         };
-        match vault.abandon(session) {
+        match self.vault.abandon(session) {
             Ok(()) => {
                 frames.none();
-                (Desk { vault, slips: None }, Ok(Answer::Done))
+                Ok(Answer::Done)
             }
             Err(Refused { fault, slip }) => {
-                let slips = Some(Slips {
-                    session: slip,
-                    frames,
-                });
-                (Desk { vault, slips }, Err(fault))
+                let session = slip;
+                put(&mut self.slips, Slips { session, frames });
+                Err(fault)
             }
         }
     }
 
-    fn frame(self) -> (Self, Reply)
-        ensures { Turned T.TokenBank.meaning H.HookBank.meaning self.vault frame_call result.0.vault result.1 }
+    fn frame(&mut self) -> Reply
+        ensures { Turned T.TokenBank.meaning H.HookBank.meaning self.old.vault frame_call self.new.vault result }
     {
-        let Desk { mut vault, slips } = self;
-        match (vault.frame(), slips) {
-            (Ok(frame), Some(Slips { session, frames })) => {
-                let slips = Some(Slips {
-                    session,
-                    frames: frames.with(frame),
-                });
-                (Desk { vault, slips }, Ok(Answer::Done))
+        let frame = self.vault.frame()?;
+        match self.slips.take() {
+            Some(Slips { session, frames }) => {
+                let frames = frames.with(frame);
+                put(&mut self.slips, Slips { session, frames });
+                Ok(Answer::Done)
             }
-            (Ok(extra), None) => unreachable(),
-            (Err(fault), slips) => (Desk { vault, slips }, Err(fault)),
+            None => unreachable(),
         }
     }
 
     // The innermost frame, kept or dropped.
-    fn end(self, how: FrameEnd) -> (Self, Reply)
-        ensures { Turned T.TokenBank.meaning H.HookBank.meaning self.vault (ending how) result.0.vault result.1 }
+    fn end(&mut self, how: FrameEnd) -> Reply
+        ensures { Turned T.TokenBank.meaning H.HookBank.meaning self.old.vault (ending how) self.new.vault result }
     {
-        let Desk { mut vault, slips } = self;
-        let Some(Slips { session, frames }) = slips else {
-            return (Desk { vault, slips: None }, Err(Cause::Locked.into()));
+        let Some(Slips { session, frames }) = self.slips.take() else {
+            return Err(Cause::Locked.into());
         };
         match frames.innermost() {
             Err(frames) => {
-                let slips = Some(Slips { session, frames });
-                (Desk { vault, slips }, Err(Cause::NoFrame.into()))
+                put(&mut self.slips, Slips { session, frames });
+                Err(Cause::NoFrame.into())
             }
-            Ok((others, innermost)) => {
+            Ok((frames, innermost)) => {
                 let ended = match how {
-                    FrameEnd::Keep => vault.keep(innermost),
-                    FrameEnd::Drop => vault.drop(innermost),
+                    FrameEnd::Keep => self.vault.keep(innermost),
+                    FrameEnd::Drop => self.vault.drop(innermost),
                 };
                 match ended {
                     Ok(()) => {
-                        let slips = Some(Slips {
-                            session,
-                            frames: others,
-                        });
-                        (Desk { vault, slips }, Ok(Answer::Done))
+                        put(&mut self.slips, Slips { session, frames });
+                        Ok(Answer::Done)
                     }
                     Err(Refused { fault, slip }) => {
-                        let slips = Some(Slips {
-                            session,
-                            frames: others.with(slip),
-                        });
-                        (Desk { vault, slips }, Err(fault))
+                        let frames = frames.with(slip);
+                        put(&mut self.slips, Slips { session, frames });
+                        Err(fault)
                     }
                 }
             }
         }
     }
 
-    fn act(self, action: Action) -> (Self, Reply)
-        ensures { Turned T.TokenBank.meaning H.HookBank.meaning self.vault (act_call action) result.0.vault result.1 }
+    fn act(&mut self, action: Action) -> Reply
+        ensures { Turned T.TokenBank.meaning H.HookBank.meaning self.old.vault (act_call action) self.new.vault result }
     {
-        let Desk { mut vault, slips } = self;
-        let reply = vault.act(action);
-        (Desk { vault, slips }, reply)
+        self.vault.act(action)
     }
 
     // Any call. Calls are values, since a run is any list of them.
-    pub(crate) fn turn(self, call: Call) -> (Self, Reply)
-        ensures { Turned T.TokenBank.meaning H.HookBank.meaning self.vault call result.0.vault result.1 }
+    pub(crate) fn turn(&mut self, call: Call) -> Reply
+        ensures { Turned T.TokenBank.meaning H.HookBank.meaning self.old.vault call self.new.vault result }
     {
         match call {
             Call::Open => self.open(),

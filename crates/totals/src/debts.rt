@@ -1,5 +1,5 @@
 // The sum of the deltas of one currency, and how many deltas are open.
-ghost use Rattle.std.specs.Prelude.{◌≡◌, ◌≤◌, get_or, pos, count_by};
+ghost use Rattle.std.specs.Prelude.{◌≡◌, ◌≤◌, if◌then◌else◌, get_or, pos, count_by};
 ghost use Rattle.totals.specs.Totals.{deltas_in, is_open, open_deltas};
 
 use book::{Book, Currency};
@@ -23,12 +23,19 @@ pub fn deltas_in(book: &Book, c: Currency) -> i128
     sum
 }
 
+// 1 where the delta is open.
+fn open(delta: &i64) -> u32
+    ensures { result ≡ (if is_open delta.now then 1 else 0) }
+{
+    u32::from(*delta != 0)
+}
+
 // How many deltas of one account are open.
 fn open_in(row: &[i64; 8]) -> u32
     ensures is { result ≡ count_by is_open row.now }
     ensures fits { result ≤ 8 }
 {
-    row.iter().filter(|delta| **delta != 0).count() as u32
+    row.iter().map(open).sum()
 }
 
 pub fn open_deltas(book: &Book) -> u32
